@@ -28,6 +28,9 @@ pub trait Disk {
     // The laws that each disk owes under its condition.
     ghost lawful: { (x : Self) → sound x → Lawful (meaning x) };
 
+    // What a disk's own read does beyond its meaning: the disk before, the block, the disk after.
+    ghost reads: { Self → ℕ → Self → Type 0 };
+
     // What a disk's own start does beyond its meaning: the disk before, the block, the image, the disk after.
     ghost starts: { Self → ℕ → List ℕ → Self → Type 0 };
 
@@ -59,7 +62,8 @@ pub trait Disk {
         requires { ⌜ sound (now self) ⌝ }
         ensures keeps { λ _. ⌜ sound (now (self .exit)) ⌝ }
         ensures rule { λ r. ⌜ ReadRule (meaning (now (self .entry))) b (now (into .entry)) (now (into .exit)) (meaning (now (self .exit))) r ⌝ }
-        ensures same { λ r. ⌜ Refused (now (self .exit) ≡ now (self .entry)) r ⌝ };
+        ensures same { λ r. ⌜ Refused (now (self .exit) ≡ now (self .entry)) r ⌝ }
+        ensures reads { λ r. ⌜ Accepted (λ _. reads (now (self .entry)) b (now (self .exit))) r ⌝ };
 
     // Puts an image of block b into flight.
     fn start(&mut self, b: u16, image: &[u8]) -> Result<(), Refusal>

@@ -7,6 +7,10 @@ use lib.Dec.{ltb}
 use lib.ListN.{length, getD}
 use Rattle.std.specs.Options.{isSome, mapped}
 use Rattle.std.specs.declared.option.Option.the-variants.{Some, None}
+use Rattle.std.specs.declared.result.Result.{Result}
+use Rattle.std.specs.declared.result.Result.the-variants.{Ok, Err}
+use Rattle.refusal.specs.declared.Refusal.{Refusal}
+use Rattle.refusal.specs.declared.Refusal.the-variants.{UnfitBytes}
 use Rattle.disk.specs.Meaning.{Meaning}
 use Rattle.disks.specs.declared.places.Places.{Places}
 use Rattle.disks.specs.declared.places.Slot.the-variants.{Free, Holding}
@@ -17,6 +21,11 @@ use Rattle.disks.specs.Places.{putSlot}
 -- so many bytes are n blocks of medium and k places, 1 to 8
 abbrev pub Fit : ℕ → ℕ → ℕ → Type 0
 Fit bytes n k = (1 ≤ k) × (k ≤ 8) × (bytes ≡ 256 * (n + k))
+
+-- the check refuses just what does not fit
+abbrev pub CheckRule : ℕ → ℕ → ℕ → Result (Unit {0}) Refusal → Type 0
+CheckRule bytes n k (Ok x) = Fit bytes n k
+CheckRule bytes n k (Err e) = (e ≡ UnfitBytes) × (Fit bytes n k → ⊥)
 
 -- the medium comes first, then the places; a block is open while it is not in flight and fewer than k are
 abbrev pub plain : List ℕ → Places → Meaning

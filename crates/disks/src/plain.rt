@@ -2,14 +2,12 @@ ghost use mathlib.Core.Path.{_≡_};
 ghost use Prim.Native.Nat.{_+_, _*_, _<_, _≤_};
 ghost use lib.ListN.{length};
 ghost use denote.Ref.{now};
-ghost use Rattle.std.specs.Results.{Cases};
 ghost use Rattle.disk.specs.declared.Outcome.the-variants.{Written};
-ghost use Rattle.refusal.specs.declared.Refusal.the-variants.{UnfitBytes};
 ghost use Rattle.disk.specs.Meaning.{Still};
 ghost use Rattle.disks.specs.declared.places.Slot.the-variants.{Free, Holding};
 ghost use Rattle.disks.specs.Rows.{block, putBlock};
 ghost use Rattle.disks.specs.Places.{fresh, putSlot};
-ghost use Rattle.disks.specs.Plain.{Fit, plain, Sound, PlainStart, PlainFinish};
+ghost use Rattle.disks.specs.Plain.{Fit, CheckRule, plain, Sound, PlainStart, PlainFinish};
 ghost use Rattle.disks.specs.Laws.{lawful-plain};
 use crate::places::Places;
 use crate::places::Slot;
@@ -32,7 +30,7 @@ pub struct Plain<'a> {
 impl<'a> Plain<'a> {
     // Whether the bytes are so many blocks and so many places, 1 to 8.
     pub fn check(bytes: &[u8], blocks: u16, places: u8) -> Result<(), Refusal>
-        ensures { λ r. ⌜ Cases r (λ _. Fit (length (now (bytes .entry))) blocks places) (λ e. (e ≡ UnfitBytes) × (Fit (length (now (bytes .entry))) blocks places → ⊥)) ⌝ }
+        ensures { λ r. ⌜ CheckRule (length (now (bytes .entry))) blocks places r ⌝ }
     {
         if places == 0 || places > 8 || bytes.len() != BLOCK * (blocks as usize + places as usize) {
             return Err(Refusal::UnfitBytes);
@@ -80,6 +78,23 @@ impl Plain<'_> {
         get_block(self.bytes, i, into);
     }
 
+    // Where place j lies among the blocks of the bytes.
+    fn row_of(&self, j: usize) -> usize
+        requires { ⌜ 256 * (now self .places .blocks + j) + 256 ≤ length (now (now self .bytes)) ⌝ }
+        ensures { λ r. ⌜ r ≡ now (self .entry) .places .blocks + j ⌝ }
+    {
+        self.places.blocks as usize + j
+    }
+
+    // Copies out the image in place j.
+    fn show(&self, j: usize, into: &mut [u8])
+        requires within { ⌜ 256 * (now self .places .blocks + j) + 256 ≤ length (now (now self .bytes)) ⌝ }
+        requires whole { ⌜ length (now into) ≡ 256 ⌝ }
+        ensures { λ _. ⌜ now (into .exit) ≡ block (now (self .entry) .places .blocks + j) (now (now (self .entry) .bytes)) ⌝ }
+    {
+        self.copy_out(self.row_of(j), into);
+    }
+
     // Puts the image of block b into place j.
     fn take(&mut self, j: usize, b: u16, image: &[u8])
         requires within { ⌜ 256 * (now self .places .blocks + j) + 256 ≤ length (now (now self .bytes)) ⌝ }
@@ -88,8 +103,8 @@ impl Plain<'_> {
         ensures bytes { λ _. ⌜ now (now (self .exit) .bytes) ≡ putBlock (now (self .entry) .places .blocks + j) (now (image .entry)) (now (now (self .entry) .bytes)) ⌝ }
         ensures places { λ _. ⌜ now (self .exit) .places ≡ putSlot j (Holding b) (now (self .entry) .places) ⌝ }
     {
-        let at = self.places.blocks as usize + j;
-        put_block(self.bytes, at, image);
+        let to = self.row_of(j);
+        put_block(self.bytes, to, image);
         self.places.put(j, Slot::Holding(b));
     }
 
@@ -101,7 +116,7 @@ impl Plain<'_> {
         ensures bytes { λ _. ⌜ now (now (self .exit) .bytes) ≡ putBlock b (block (now (self .entry) .places .blocks + j) (now (now (self .entry) .bytes))) (now (now (self .entry) .bytes)) ⌝ }
         ensures places { λ _. ⌜ now (self .exit) .places ≡ putSlot j Free (now (self .entry) .places) ⌝ }
     {
-        let from = self.places.blocks as usize + j;
+        let from = self.row_of(j);
         move_block(self.bytes, from, b as usize);
         self.places.put(j, Slot::Free);
     }
@@ -113,6 +128,8 @@ pub impl Disk for Plain<'_> as PlainDisk {
     ghost sound = { λ x. Sound (now (x .bytes)) (x .places) };
 
     ghost lawful = { λ x s. lawful-plain (now (x .bytes)) (x .places) s };
+
+    ghost reads = { λ x _ y. y ≡ x };
 
     ghost starts = { λ x b image y. PlainStart (now (x .bytes)) (x .places) b image (now (y .bytes)) (y .places) };
 
@@ -185,8 +202,7 @@ pub impl InFlight for Plain<'_> as PlainInFlight {
         let Some(j) = self.places.place_of(b) else {
             return Err(Refusal::BlockNotInFlight);
         };
-        let at = self.places.blocks as usize + j;
-        self.copy_out(at, into);
+        self.show(j, into);
         Ok(())
     }
 }
