@@ -1,5 +1,4 @@
 // Starts and finishes writes on a small plain disk, and shows what a loss of supply can leave in between.
-ghost use Rattle.disk.specs.Rules.{Accepted};
 use disk::BLOCK;
 use disk::Disk;
 use disk::InFlight;
@@ -11,14 +10,38 @@ use power_loss::State;
 use power_loss::Unlisted;
 use power_loss::states;
 use refusal::RefusalDisplay;
-use std::error::AnyError;
+use std::io;
 
 const BLOCKS: u16 = 4;
+
 const PLACES: u8 = 2;
+
 const BYTES: usize = 1536;
 
+// A step of a scene: start a block with an image of one byte, finish a block, or list what a loss can leave.
+#[derive(Clone, Copy)]
+enum Step {
+    Start(u16, u8),
+    Finish(u16),
+    List,
+}
+
+const STEPS: [Step; 11] = [
+    Step::List,
+    Step::Start(0, 0x11),
+    Step::Start(2, 0x22),
+    Step::Start(3, 0x33),
+    Step::List,
+    Step::Finish(0),
+    Step::List,
+    Step::Finish(0),
+    Step::Start(3, 0x33),
+    Step::Start(BLOCKS, 0x44),
+    Step::List,
+];
+
 // Starts a write of a block full of one byte, and prints the answer.
-fn start<D: Disk>(rt: &LibcRuntime, disk: &mut D, b: u16, byte: u8) -> Result<(), AnyError>
+fn start<D: Disk>(rt: &LibcRuntime, disk: &mut D, b: u16, byte: u8) -> io::Result<()>
     requires { ⌜ D·Disk .sound (now disk) ⌝ }
     ensures { λ _. ⌜ D·Disk .sound (now (disk .exit)) ⌝ }
 {
@@ -30,7 +53,7 @@ fn start<D: Disk>(rt: &LibcRuntime, disk: &mut D, b: u16, byte: u8) -> Result<()
 }
 
 // Finishes the write of a block, and prints the answer.
-fn finish<D: Disk>(rt: &LibcRuntime, disk: &mut D, b: u16) -> Result<(), AnyError>
+fn finish<D: Disk>(rt: &LibcRuntime, disk: &mut D, b: u16) -> io::Result<()>
     requires { ⌜ D·Disk .sound (now disk) ⌝ }
     ensures { λ _. ⌜ D·Disk .sound (now (disk .exit)) ⌝ }
 {
@@ -44,25 +67,37 @@ fn finish<D: Disk>(rt: &LibcRuntime, disk: &mut D, b: u16) -> Result<(), AnyErro
     Ok(())
 }
 
-// Prints which blocks got written, then the first bytes of each block as it stands.
-fn show(rt: &LibcRuntime, state: &State) -> Result<(), AnyError> {
-    print!(rt, "  written")?;
-    if state.written.is_empty() {
+// Prints the numbers of the blocks that got written, or "-".
+fn show_written(rt: &LibcRuntime, written: &[u16]) -> io::Result<()> {
+    if written.is_empty() {
         print!(rt, " -")?;
     }
-    for b in state.written.iter() {
+    for b in written {
         print!(rt, " {b}")?;
     }
-    print!(rt, " |")?;
-    for block in state.blocks.iter() {
-        print!(rt, " {:02x}{:02x}{:02x}{:02x}", block[0], block[1], block[2], block[3])?;
-    }
-    println!(rt, "")?;
     Ok(())
 }
 
+// Prints the first bytes of each block.
+fn show_blocks(rt: &LibcRuntime, blocks: &[[u8; BLOCK]]) -> io::Result<()> {
+    for block in blocks {
+        let [a, b, c, d, ..] = block;
+        print!(rt, " {a:02x}{b:02x}{c:02x}{d:02x}")?;
+    }
+    Ok(())
+}
+
+// Prints which blocks got written, then how each block stands.
+fn show(rt: &LibcRuntime, state: &State) -> io::Result<()> {
+    print!(rt, "  written")?;
+    show_written(rt, &state.written)?;
+    print!(rt, " |")?;
+    show_blocks(rt, &state.blocks)?;
+    println!(rt, "")
+}
+
 // Prints every state that a loss of supply can leave now.
-fn list<D: InFlight>(rt: &LibcRuntime, disk: &mut D) -> Result<(), AnyError>
+fn list<D: InFlight>(rt: &LibcRuntime, disk: &mut D) -> io::Result<()>
     requires { ⌜ D·Disk .sound (now disk) ⌝ }
     ensures { λ _. ⌜ D·Disk .sound (now (disk .exit)) ⌝ }
 {
@@ -74,28 +109,42 @@ fn list<D: InFlight>(rt: &LibcRuntime, disk: &mut D) -> Result<(), AnyError>
             }
         }
         Err(Unlisted::Memory) => println!(rt, "no memory to list the states")?,
-        Err(Unlisted::TooManyInFlight) => println!(rt, "too many blocks in flight to list the states")?,
+        Err(Unlisted::TooManyInFlight) => println!(
+            rt,
+            "too many blocks in flight to list the states"
+        )?,
     }
     Ok(())
 }
 
-fn run(rt: &LibcRuntime, bytes: &mut [u8]) -> Result<(), AnyError> {
-    let mut disk = Plain::new(bytes, BLOCKS, PLACES);
-    list(rt, &mut disk)?;
-    start(rt, &mut disk, 0, 0x11)?;
-    start(rt, &mut disk, 2, 0x22)?;
-    start(rt, &mut disk, 3, 0x33)?;
-    list(rt, &mut disk)?;
-    finish(rt, &mut disk, 0)?;
-    list(rt, &mut disk)?;
-    finish(rt, &mut disk, 0)?;
-    start(rt, &mut disk, 3, 0x33)?;
-    start(rt, &mut disk, BLOCKS, 0x44)?;
-    list(rt, &mut disk)
+// Takes one step of a scene.
+fn take<D: InFlight>(rt: &LibcRuntime, disk: &mut D, step: Step) -> io::Result<()>
+    requires { ⌜ D·Disk .sound (now disk) ⌝ }
+    ensures { λ _. ⌜ D·Disk .sound (now (disk .exit)) ⌝ }
+{
+    match step {
+        Step::Start(b, byte) => start(rt, disk, b, byte),
+        Step::Finish(b) => finish(rt, disk, b),
+        Step::List => list(rt, disk),
+    }
 }
 
-fn main(rt: LibcRuntime) -> Result<(), AnyError> {
+// Takes the steps of a scene, one after the other.
+fn play<D: InFlight>(rt: &LibcRuntime, disk: &mut D, steps: &[Step]) -> io::Result<()>
+    requires { ⌜ D·Disk .sound (now disk) ⌝ }
+    ensures { λ _. ⌜ D·Disk .sound (now (disk .exit)) ⌝ }
+{
+    for step in steps {
+        take(rt, disk, *step)?;
+    }
+    Ok(())
+}
+
+fn main(rt: LibcRuntime) -> io::Result<()> {
     let mut bytes = [0u8; BYTES];
-    println!(rt, "{BLOCKS} blocks of {BLOCK} bytes, {PLACES} places for images in flight")?;
-    rt.report(run(&rt, &mut bytes))
+    println!(
+        rt,
+        "{BLOCKS} blocks of {BLOCK} bytes, {PLACES} places for images in flight"
+    )?;
+    play(&rt, &mut Plain::new(&mut bytes, BLOCKS, PLACES), &STEPS)
 }
