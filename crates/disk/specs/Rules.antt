@@ -13,31 +13,39 @@ use Rattle.disk.specs.Meaning.{Meaning, flies}
 use Rattle.disk.specs.declared.Outcome.{Outcome}
 use Rattle.disk.specs.declared.Outcome.the-variants.{Written, Failed}
 
--- a disk refuses for five reasons only: what must hold for each of them
-abbrev pub RefusedFor : Type 0 → Type 0 → Type 0 → Type 0 → Type 0 → Refusal → Type 0
-RefusedFor unfit absent flying grounded shut UnfitBytes = unfit
-RefusedFor unfit absent flying grounded shut NoSuchBlock = absent
-RefusedFor unfit absent flying grounded shut BadByteRange = ⊥
-RefusedFor unfit absent flying grounded shut TooManyNames = ⊥
-RefusedFor unfit absent flying grounded shut UnknownPatch = ⊥
-RefusedFor unfit absent flying grounded shut UnknownGroup = ⊥
-RefusedFor unfit absent flying grounded shut BadScriptLength = ⊥
-RefusedFor unfit absent flying grounded shut (MisplacedWord place) = ⊥
-RefusedFor unfit absent flying grounded shut ShortReportList = ⊥
-RefusedFor unfit absent flying grounded shut GroupNotLower = ⊥
-RefusedFor unfit absent flying grounded shut ShortText = ⊥
-RefusedFor unfit absent flying grounded shut SetNotClosed = ⊥
-RefusedFor unfit absent flying grounded shut PatchTableFull = ⊥
-RefusedFor unfit absent flying grounded shut GroupTableFull = ⊥
-RefusedFor unfit absent flying grounded shut WrongGroupState = ⊥
-RefusedFor unfit absent flying grounded shut GroupNamesFull = ⊥
-RefusedFor unfit absent flying grounded shut BlockInFlight = flying
-RefusedFor unfit absent flying grounded shut BlockNotInFlight = grounded
-RefusedFor unfit absent flying grounded shut NothingToSend = ⊥
-RefusedFor unfit absent flying grounded shut BlockNotOpen = shut
-RefusedFor unfit absent flying grounded shut NumbersUsedUp = ⊥
-RefusedFor unfit absent flying grounded shut UnfitBuffer = ⊥
-RefusedFor unfit absent flying grounded shut TooManyHeld = ⊥
+-- the five reasons for which a disk refuses: what must hold for each of them
+pub record Reasons : Type 1 where
+  pub unfit : Type 0
+  pub absent : Type 0
+  pub flying : Type 0
+  pub grounded : Type 0
+  pub shut : Type 0
+
+-- a disk refuses for its reasons only
+abbrev pub RefusedFor : Reasons → Refusal → Type 0
+RefusedFor why UnfitBytes = why .unfit
+RefusedFor why NoSuchBlock = why .absent
+RefusedFor why BadByteRange = ⊥
+RefusedFor why TooManyNames = ⊥
+RefusedFor why UnknownPatch = ⊥
+RefusedFor why UnknownGroup = ⊥
+RefusedFor why BadScriptLength = ⊥
+RefusedFor why (MisplacedWord place) = ⊥
+RefusedFor why ShortReportList = ⊥
+RefusedFor why GroupNotLower = ⊥
+RefusedFor why ShortText = ⊥
+RefusedFor why SetNotClosed = ⊥
+RefusedFor why PatchTableFull = ⊥
+RefusedFor why GroupTableFull = ⊥
+RefusedFor why WrongGroupState = ⊥
+RefusedFor why GroupNamesFull = ⊥
+RefusedFor why BlockInFlight = why .flying
+RefusedFor why BlockNotInFlight = why .grounded
+RefusedFor why NothingToSend = ⊥
+RefusedFor why BlockNotOpen = why .shut
+RefusedFor why NumbersUsedUp = ⊥
+RefusedFor why UnfitBuffer = ⊥
+RefusedFor why TooManyHeld = ⊥
 
 -- what holds of an accepted call
 abbrev pub Accepted : {X : Type 0} → (X → Type 0) → Result X Refusal → Type 0
@@ -83,42 +91,50 @@ FinishEffect m b (Failed layer block) after = (0 < layer) × FailEffect m b afte
 abbrev pub ReadRule : Meaning → ℕ → List ℕ → List ℕ → Meaning → Result (Unit {0}) Refusal → Type 0
 ReadRule m b old new after (Ok x) = (length old ≡ 256) × (b < m .blocks) × (new ≡ m .medium b) × (after ≡ m)
 ReadRule m b old new after (Err e) = (new ≡ old) × (after ≡ m) × RefusedFor
-    (length old ≡ 256 → ⊥)
-    ((length old ≡ 256) × (m .blocks ≤ b))
-    ⊥
-    ⊥
-    ⊥
+    (record {
+      unfit = length old ≡ 256 → ⊥;
+      absent = (length old ≡ 256) × (m .blocks ≤ b);
+      flying = ⊥;
+      grounded = ⊥;
+      shut = ⊥;
+    })
     e
 
 -- start puts the image into flight at an open block
 abbrev pub StartRule : Meaning → ℕ → List ℕ → Meaning → Result (Unit {0}) Refusal → Type 0
 StartRule m b image after (Ok x) = (length image ≡ 256) × (m .opens b ≡ true) × StartEffect m b image after
 StartRule m b image after (Err e) = (after ≡ m) × RefusedFor
-    (length image ≡ 256 → ⊥)
-    ((length image ≡ 256) × (m .blocks ≤ b))
-    ((length image ≡ 256) × (b < m .blocks) × (flies m b ≡ true))
-    ⊥
-    ((length image ≡ 256) × (b < m .blocks) × (flies m b ≡ false) × (m .opens b ≡ false))
+    (record {
+      unfit = length image ≡ 256 → ⊥;
+      absent = (length image ≡ 256) × (m .blocks ≤ b);
+      flying = (length image ≡ 256) × (b < m .blocks) × (flies m b ≡ true);
+      grounded = ⊥;
+      shut = (length image ≡ 256) × (b < m .blocks) × (flies m b ≡ false) × (m .opens b ≡ false);
+    })
     e
 
 -- finish ends the write in flight at a block
 abbrev pub FinishRule : Meaning → ℕ → Meaning → Result Outcome Refusal → Type 0
 FinishRule m b after (Ok o) = (flies m b ≡ true) × FinishEffect m b o after
 FinishRule m b after (Err e) = (after ≡ m) × RefusedFor
-    ⊥
-    (m .blocks ≤ b)
-    ⊥
-    ((b < m .blocks) × (flies m b ≡ false))
-    ⊥
+    (record {
+      unfit = ⊥;
+      absent = m .blocks ≤ b;
+      flying = ⊥;
+      grounded = (b < m .blocks) × (flies m b ≡ false);
+      shut = ⊥;
+    })
     e
 
 -- image copies out the image in flight at a block
 abbrev pub ImageRule : Meaning → ℕ → List ℕ → List ℕ → Result (Unit {0}) Refusal → Type 0
 ImageRule m b old new (Ok x) = (length old ≡ 256) × (m .air b ≡ Some new)
 ImageRule m b old new (Err e) = (new ≡ old) × RefusedFor
-    (length old ≡ 256 → ⊥)
-    ((length old ≡ 256) × (m .blocks ≤ b))
-    ⊥
-    ((length old ≡ 256) × (b < m .blocks) × (flies m b ≡ false))
-    ⊥
+    (record {
+      unfit = length old ≡ 256 → ⊥;
+      absent = (length old ≡ 256) × (m .blocks ≤ b);
+      flying = ⊥;
+      grounded = (length old ≡ 256) × (b < m .blocks) × (flies m b ≡ false);
+      shut = ⊥;
+    })
     e
