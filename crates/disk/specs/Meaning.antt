@@ -6,7 +6,7 @@ use Prim.Native.Nat.{ℕ, _<_}
 use lib.ListN.{length}
 use Rattle.std.specs.Options.{isSome, valueOr}
 use Rattle.std.specs.declared.option.Option.{Option}
-use Rattle.std.specs.declared.option.Option.the-variants.{Some, None}
+use Rattle.std.specs.declared.option.Option.the-variants.{Some}
 
 -- the number of blocks, the medium's block b, the image of b in flight, whether b may be started, whether the disk is spent
 pub record Meaning : Type 0 where

@@ -4,7 +4,6 @@ mod tests {
     use disk::BLOCK;
     use disk::Disk;
     use disk::InFlight;
-    use disk::Outcome;
     use disks::Plain;
     use disks::PlainDisk;
     use disks::PlainInFlight;

@@ -1,11 +1,11 @@
 -- What start and finish of a plain disk do to its condition and its meaning.
 use mathlib.Core.Path.{_≡_, refl, sym, ap, _∙_, subst}
-use mathlib.Core.Bool.{Bool, true, false, cond, not, _&&_}
+use mathlib.Core.Bool.{Bool, true, false, not, _&&_}
 use mathlib.Core.List.{List}
 use mathlib.Core.Logic.{inl, inr}
 use Prim.Native.Nat.{ℕ, _+_, _*_, _<_, _≤_}
 use native.Mathlib.Omega.{arith}
-use lib.Dec.{eqb, ltb}
+use lib.Dec.{ltb}
 use lib.ListN.{length, getD, set, length-set}
 use lib.Seq.{getD-set-same, getD-set-other}
 use Rattle.std.specs.Options.{isSome, mapped}
@@ -17,7 +17,7 @@ use Rattle.disks.specs.declared.places.Places.{Places}
 use Rattle.disks.specs.declared.places.Slot.{Slot}
 use Rattle.disks.specs.declared.places.Slot.the-variants.{Free, Holding, Absent}
 use Rattle.disks.specs.Rows.{block, putBlock}
-use Rattle.disks.specs.Slots.{sameSlot, present, firstBy, place, flights}
+use Rattle.disks.specs.Slots.{sameSlot, present, place, flights}
 use Rattle.disks.specs.Firsts.{firstBy-none, firstBy-some, firstBy-set, found, missing}
 use Rattle.disks.specs.Places.{putSlot}
 use Rattle.disks.specs.Plain.{plain, Sound, PlainStart, PlainFinish}

@@ -1,21 +1,20 @@
 -- Why the laws of every disk hold of a plain disk under its condition.
-use mathlib.Core.Path.{_≡_, refl, sym, ap, _∙_, subst}
-use mathlib.Core.Bool.{Bool, true, false, cond, not, _&&_}
+use mathlib.Core.Path.{_≡_, refl, sym, ap, _∙_}
+use mathlib.Core.Bool.{true, false, cond}
 use mathlib.Core.List.{List, [], _∷_}
 use mathlib.Core.Logic.{⊎-elim}
 use Prim.Native.Nat.{ℕ, zero, suc, _+_, _*_, _<_, _≤_}
 use native.Mathlib.Omega.{arith}
-use lib.Dec.{eqb, ltb}
-use lib.ListN.{length, getD, take, drop}
+use lib.Dec.{ltb}
+use lib.ListN.{length, getD, drop}
 use Rattle.std.specs.Options.{isSome, mapped}
-use Rattle.std.specs.shelf.Lists.{All}
 use Rattle.std.specs.declared.option.Option.{Option}
 use Rattle.std.specs.declared.option.Option.the-variants.{Some, None}
 use Rattle.std.proofs.shelf.Tests.{both-ways, eq-eqb, cases-lt, lt-ltb, le-ltb, ltb-true, and-parts, and-from, not-true, not-from-false}
 use Rattle.std.proofs.shelf.Lists.{length-take-le, length-drop}
 use Rattle.std.proofs.shelf.Sums.{sumBy-cons, getD-le-sumBy, sumBy-le}
 use Rattle.std.proofs.shelf.Elements.{all-from-getD}
-use Rattle.disk.specs.Meaning.{Meaning, Lawful, Still, flies}
+use Rattle.disk.specs.Meaning.{Lawful, Still, flies}
 use Rattle.disks.specs.declared.places.Places.{Places}
 use Rattle.disks.specs.declared.places.Slot.{Slot}
 use Rattle.disks.specs.declared.places.Slot.the-variants.{Free, Holding, Absent}

@@ -2,7 +2,7 @@
 use mathlib.Core.Path.{_≡_}
 use mathlib.Core.Bool.{Bool, true, false, _||_}
 use mathlib.Core.List.{List, [], _∷_, map}
-use Prim.Native.Nat.{ℕ, _<_, _^_}
+use Prim.Native.Nat.{ℕ, _<_, _≤_, _^_}
 use lib.Dec.{eqb}
 use lib.ListN.{length, getD}
 use Rattle.std.specs.Iters.{counting}
@@ -42,8 +42,8 @@ pub record Listing (m : Meaning) (choices : List (List ℕ)) (blocks : List (Lis
   pub every : (chosen : ℕ → Bool) → (i : ℕ) × (i < length choices) × Chooses m chosen (getD choices i []) × Shows m chosen (getD blocks i [])
   pub once : (i j : ℕ) → i < length choices → j < length choices → Chooses m (among (getD choices i [])) (getD choices j []) → i ≡ j
 
--- what the call answers
+-- what the call answers; whether memory suffices is free
 abbrev pub Listed : Meaning → Result (Vec State) Unlisted → Type 0
-Listed m (Ok states) = Listing m (map (λ s. vec-items (s .written)) (vec-items states)) (map (λ s. vec-items (s .blocks)) (vec-items states))
+Listed m (Ok states) = (inFlight m ≤ 16) × Listing m (map (λ s. vec-items (s .written)) (vec-items states)) (map (λ s. vec-items (s .blocks)) (vec-items states))
 Listed m (Err Memory) = Unit {0}
 Listed m (Err TooManyInFlight) = 16 < inFlight m

@@ -1,6 +1,6 @@
 use mathlib.Core.Path.{_≡_, refl, ap, ap₂, sym, _∙_}
 use mathlib.Core.List.{map, [], _∷_}
-use Prim.Native.Nat.{_^_}
+use Prim.Native.Nat.{_≤_, _^_}
 use native.Mathlib.Omega.{arith}
 use borrow.Author.Needs.{needs}
 use lib.ListN.{length}
@@ -9,7 +9,7 @@ use Rattle.std.specs.Of.Vec.{vec-items}
 use Rattle.std.proofs.shelf.Bits.{one-shl, pow-pos}
 use Rattle.std.proofs.shelf.Parts.{pushed}
 use Rattle.disk.specs.Meaning.{flies, stands}
-use Rattle.power_loss.specs.States.{among}
+use Rattle.power_loss.specs.States.{inFlight, among}
 use Rattle.power_loss.specs.Numbered.{airborne, picked}
 use Rattle.power_loss.proofs.Listings.{length-airborne, picked-flies, shown, listing-all, map-push-more}
 use Rattle.power_loss.proofs.states.Needs as need
@@ -58,9 +58,10 @@ returns g c =
     let count = ap length (c .in-Continue-flying .ensures tt) in
     let power = one-shl (c .len-number-end .result) 64 (omega (arith, c .len-number-end .ensures, c .len .ensures, c .if-len-gt-MOST .left)) in
     let is : c .len-number-end .result ≡ length (airborne m) = omega (arith, count, c .len-number-end .ensures, c .in-Continue-flying .flying .ok .0) in
+    let few : inFlight m ≤ 16 = omega (arith, length-airborne m, is, c .len-number-end .ensures, c .len .ensures, c .if-len-gt-MOST .left) in
     let all = power ∙ ap (λ k. 2 ^ k) is in
     record {
       keeps = c .loop-number .inv .0;
       same = c .loop-number .inv .1;
-      listed = listing-all m (g .D·Disk .lawful (c .args .disk .now) (c .pre)) (c .loop-number .number) _ _ (omega (arith, all, pow-pos (c .len-number-end .result))) (c .loop-number .inv .2) (c .loop-number .inv .3);
+      listed = (few, listing-all m (g .D·Disk .lawful (c .args .disk .now) (c .pre)) (c .loop-number .number) _ _ (omega (arith, all, pow-pos (c .len-number-end .result))) (c .loop-number .inv .2) (c .loop-number .inv .3));
     }

@@ -4,7 +4,6 @@ use Prim.Native.Nat.{ℕ, _*_, _+_, _-_}
 use native.Mathlib.Omega.{arith}
 use lib.ListN.{take, drop}
 use Rattle.std.proofs.shelf.Lists.{drop-drop}
-use borrow.Author.Needs.{needs}
 use Rattle.disks.specs.Rows.{putBlock}
 use Rattle.disks.proofs.rows.put_block.Needs as need
 

@@ -1,8 +1,8 @@
-use mathlib.Core.Path.{_≡_, refl, ap, _∙_, subst, sym}
+use mathlib.Core.Path.{_≡_, ap, _∙_, subst, sym}
 use mathlib.Core.List.{List}
 use Prim.Native.Nat.{ℕ, _<_, _+_}
 use native.Mathlib.Omega.{arith}
-use lib.ListN.{length, getD, set, length-set}
+use lib.ListN.{getD, set, length-set}
 use Rattle.std.proofs.shelf.Edits.{fill-by-more}
 use Rattle.std.proofs.shelf.Counted.{fill-by-all}
 use Rattle.disks.specs.declared.places.Slot.{Slot}
