@@ -21,7 +21,7 @@ use Rattle.disks.specs.Slots.{sameSlot, present, place, flights}
 use Rattle.disks.specs.Firsts.{firstBy-none, firstBy-some, firstBy-set, found, missing}
 use Rattle.disks.specs.Places.{putSlot}
 use Rattle.disks.specs.Plain.{plain, Sound, PlainStart, PlainFinish}
-use Rattle.disks.specs.Laws.{length-block, held-at, free-at, roomy}
+use Rattle.disks.specs.Laws.{length-block, same-is, there-at, held-below, place-fits, roomy}
 use Rattle.disks.proofs.Puts.{length-put, block-put-same, block-put-other}
 
 at-set : (P : Slot → Type 0) (ss : List Slot) (j : ℕ) (v : Slot) (i : ℕ) → j < length ss → (i ≡ j → P v) → ((i ≡ j → ⊥) → P (getD ss i Free)) → P (getD (set ss j v) i Free)
@@ -31,16 +31,12 @@ at-set P ss j v i l here other =
       | inr d ↦ subst P (sym (getD-set-other ss j i v Free d)) (other d)
     ]
 
--- two slots that hold the same block, and a slot that is free
-same-block : (a b : ℕ) (s : Slot) → sameSlot (Holding a) s ≡ true → sameSlot (Holding b) s ≡ true → a ≡ b
-same-block a b Free t u = absurd (both-ways false refl t)
-same-block a b (Holding x) t u = omega (arith, eqb-true a x t, eqb-true b x u)
-same-block a b Absent t u = absurd (both-ways false refl t)
-
+-- a slot that holds no other block
 free-other : (b : ℕ) (s : Slot) → sameSlot Free s ≡ true → sameSlot (Holding b) s ≡ false
-free-other b Free t = refl
-free-other b (Holding a) t = absurd (both-ways false refl t)
-free-other b Absent t = refl
+free-other b s t = ap (sameSlot (Holding b)) (same-is Free s t)
+
+same-block : (a b : ℕ) (s : Slot) → sameSlot (Holding a) s ≡ true → sameSlot (Holding b) s ≡ true → a ≡ b
+same-block a b s t u = eqb-true a b (ap (sameSlot (Holding a)) (sym (same-is (Holding b) s u)) ∙ t)
 
 false-from : (t : Bool) → (t ≡ true → ⊥) → t ≡ false
 false-from true h = absurd (h refl)
@@ -87,10 +83,10 @@ module _ (bytes : List ℕ) (p : Places) (s : Sound bytes p) (b j : ℕ) (image 
   free = found (sameSlot Free) (p .slots) Free j lowest .1
 
   here : j < p .count
-  here = free-at bytes p s j lowest
+  here = there-at bytes p s Free j refl lowest
 
-  pub fits : 256 * (p .blocks + j) + 256 ≤ length bytes
-  fits = omega (arith, here, s .long (omega arith))
+  fits : 256 * (p .blocks + j) + 256 ≤ length bytes
+  fits = place-fits bytes p s b j below here
 
   pub start-sound : Sound (putBlock (p .blocks + j) image bytes) (putSlot j (Holding b) p)
   start-sound = sound-put bytes p s j here (putBlock (p .blocks + j) image bytes) (Holding b) (length-put (p .blocks + j) image bytes fits whole) refl
@@ -118,23 +114,26 @@ module _ (bytes : List ℕ) (p : Places) (s : Sound bytes p) (b j : ℕ) (image 
   }
 
 module _ (bytes : List ℕ) (p : Places) (s : Sound bytes p) (b j : ℕ) (held : place (Holding b) (p .slots) ≡ Some j) where
-  in-place : (j < p .count) × (b < p .blocks)
-  in-place = held-at bytes p s b j held
+  seated : j < p .count
+  seated = there-at bytes p s (Holding b) j refl held
+
+  below : b < p .blocks
+  below = held-below bytes p s b j held
 
   taking : sameSlot (Holding b) (getD (p .slots) j Free) ≡ true
   taking = found (sameSlot (Holding b)) (p .slots) Free j held .1
 
   pub source-fits : 256 * (p .blocks + j) + 256 ≤ length bytes
-  source-fits = omega (arith, in-place .0, in-place .1, s .long (omega (arith, in-place .1)))
+  source-fits = place-fits bytes p s b j below seated
 
   pub target-fits : 256 * b + 256 ≤ length bytes
-  target-fits = omega (arith, in-place .0, in-place .1, s .long (omega (arith, in-place .1)))
+  target-fits = omega (arith, below, source-fits)
 
   whole : length (block (p .blocks + j) bytes) ≡ 256
   whole = length-block (p .blocks + j) bytes source-fits
 
   pub finish-sound : Sound (putBlock b (block (p .blocks + j) bytes) bytes) (putSlot j Free p)
-  finish-sound = sound-put bytes p s j (in-place .0) (putBlock b (block (p .blocks + j) bytes) bytes) Free (length-put b (block (p .blocks + j) bytes) bytes target-fits whole) refl
+  finish-sound = sound-put bytes p s j seated (putBlock b (block (p .blocks + j) bytes) bytes) Free (length-put b (block (p .blocks + j) bytes) bytes target-fits whole) refl
       (λ a t. absurd (both-ways false refl t))
       (λ a i l t u. absurd (both-ways false refl t))
 
@@ -146,13 +145,13 @@ module _ (bytes : List ℕ) (p : Places) (s : Sound bytes p) (b j : ℕ) (held :
     landed = ap (mapped (λ i. block (p .blocks + i) (putBlock b (block (p .blocks + j) bytes) bytes))) (firstBy-none (sameSlot (Holding b)) (set (p .slots) j Free) Free clear);
     elsewhere = λ a d. air-same bytes (putBlock b (block (p .blocks + j) bytes) bytes) p (putSlot j Free p) a refl
         (firstBy-set (sameSlot (Holding a)) (p .slots) Free j Free (false-from (sameSlot (Holding a) (getD (p .slots) j Free)) (λ t. d (same-block a b (getD (p .slots) j Free) t taking))))
-        (λ i e. block-put-other b (block (p .blocks + j) bytes) bytes target-fits whole (p .blocks + i) (λ q. omega (arith, in-place .1)));
+        (λ i e. block-put-other b (block (p .blocks + j) bytes) bytes target-fits whole (p .blocks + i) (λ q. omega (arith, below)));
     spent = refl;
   }
     where
       clear : (i : ℕ) → i < length (set (p .slots) j Free) → sameSlot (Holding b) (getD (set (p .slots) j Free) i Free) ≡ false
       clear i l = at-set (λ x. sameSlot (Holding b) x ≡ false) (p .slots) j Free i (found (sameSlot (Holding b)) (p .slots) Free j held .0) (λ _. refl)
-          (λ d. false-from (sameSlot (Holding b) (getD (p .slots) i Free)) (λ t. d (s .apart i j b (omega (arith, simp length-set at l, s .eight)) (omega (arith, in-place .0, s .most)) t taking)))
+          (λ d. false-from (sameSlot (Holding b) (getD (p .slots) i Free)) (λ t. d (s .apart i j b (omega (arith, simp length-set at l, s .eight)) (omega (arith, seated, s .most)) t taking)))
 
 -- a block that is not in flight is open just while a place is free
 pub open-while : (bytes : List ℕ) (p : Places) (b : ℕ) → Sound bytes p → place (Holding b) (p .slots) ≡ None → b < p .blocks → plain bytes p .opens b ≡ isSome (place Free (p .slots))
@@ -161,16 +160,23 @@ open-while bytes p b s idle below =
     ∙ ap (λ (o : Option ℕ). not (isSome o) && ltb (flights (p .slots)) (p .count)) idle
     ∙ sym (roomy bytes p s)
 
+-- what stands at the place that was found, and at those below it
+pub found-slot : (w : Slot) (ss : List Slot) (j : ℕ) → place w ss ≡ Some j → getD ss j Absent ≡ w
+found-slot w ss j e = let f = found (sameSlot w) ss Absent j e in same-is w (getD ss j Absent) (f .1)
+
+pub lower-slots : (w : Slot) (ss : List Slot) (j : ℕ) → sameSlot w w ≡ true → place w ss ≡ Some j → (i : ℕ) → i < j → getD ss i Absent ≡ w → ⊥
+lower-slots w ss j t e i l q = both-ways _ (found (sameSlot w) ss Absent j e .2 i l) (ap (sameSlot w) q ∙ t)
+
 -- a start keeps the condition and has the effect that every disk's start has
 pub started : (old : List ℕ) (p : Places) (b : ℕ) (image new : List ℕ) (q : Places) → Sound old p → place (Holding b) (p .slots) ≡ None → b < p .blocks → length image ≡ 256 → PlainStart old p b image new q → Sound new q × StartEffect (plain old p) b image (plain new q)
 started old p b image new q s idle below whole st =
     let T : List ℕ → Places → Type 0 = λ xs x. Sound xs x × StartEffect (plain old p) b image (plain xs x) in
-    let r : T (putBlock (p .blocks + st .at) image old) (putSlot (st .at) (Holding b) p) = (start-sound old p s b (st .at) image (st .lowest) idle below whole, start-effect old p s b (st .at) image (st .lowest) idle below whole) in
+    let r : T (putBlock (p .blocks + st .at) image old) (putSlot (st .at) (Holding b) p) = (start-sound old p s b (st .at) image (st .found) idle below whole, start-effect old p s b (st .at) image (st .found) idle below whole) in
     subst (λ (x : Places). T new x) (sym (st .places)) (subst (λ (xs : List ℕ). T xs (putSlot (st .at) (Holding b) p)) (sym (st .bytes)) r)
 
 -- a finish keeps the condition and has the effect of every disk's written finish
 pub finished : (old : List ℕ) (p : Places) (b : ℕ) (new : List ℕ) (q : Places) → Sound old p → PlainFinish old p b new q → Sound new q × WriteEffect (plain old p) b (plain new q)
 finished old p b new q s fi =
     let T : List ℕ → Places → Type 0 = λ xs x. Sound xs x × WriteEffect (plain old p) b (plain xs x) in
-    let r : T (putBlock b (block (p .blocks + fi .at) old) old) (putSlot (fi .at) Free p) = (finish-sound old p s b (fi .at) (fi .held), write-effect old p s b (fi .at) (fi .held)) in
+    let r : T (putBlock b (block (p .blocks + fi .at) old) old) (putSlot (fi .at) Free p) = (finish-sound old p s b (fi .at) (fi .found), write-effect old p s b (fi .at) (fi .found)) in
     subst (λ (x : Places). T new x) (sym (fi .places)) (subst (λ (xs : List ℕ). T xs (putSlot (fi .at) Free p)) (sym (fi .bytes)) r)

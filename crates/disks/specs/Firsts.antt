@@ -33,23 +33,27 @@ module _ {X : Type 0} (p : X → Bool) where
   -- what the index says of the list
   abbrev FirstAt : List X → X → Option ℕ → Type 0
   FirstAt xs d None = (j : ℕ) → j < length xs → p (getD xs j d) ≡ false
-  FirstAt xs d (Some j) = (j < length xs) × (p (getD xs j d) ≡ true)
+  FirstAt xs d (Some j) = (j < length xs) × (p (getD xs j d) ≡ true) × ((i : ℕ) → i < j → p (getD xs i d) ≡ false)
 
   step : (x : X) (xs : List X) (d : X) (t : Bool) (o : Option ℕ) → p x ≡ t → FirstAt xs d o → FirstAt (x ∷ xs) d (cond t (Some 0) (mapped suc o))
-  step x xs d true o e h = (omega arith, e)
+  step x xs d true o e h = (omega arith, e, λ i l. absurd (omega arith))
   step x xs d false None e h = λ j l. below j l
     where
       below : (j : ℕ) → j < length (x ∷ xs) → p (getD (x ∷ xs) j d) ≡ false
       below zero l = e
       below (suc j) l = h j (omega arith)
-  step x xs d false (Some j) e h = (omega arith, h .1)
+  step x xs d false (Some j) e h = (omega arith, h .1, before)
+    where
+      before : (i : ℕ) → i < suc j → p (getD (x ∷ xs) i d) ≡ false
+      before zero l = e
+      before (suc i) l = h .2 i (omega arith)
 
   firstBy-at : (xs : List X) (d : X) → FirstAt xs d (firstBy p xs)
   unfolding firstBy
   firstBy-at [] d = λ j l. absurd (omega arith)
   firstBy-at (x ∷ xs) d = step x xs d (p x) (firstBy p xs) refl (firstBy-at xs d)
 
-  pub found : (xs : List X) (d : X) (j : ℕ) → firstBy p xs ≡ Some j → (j < length xs) × (p (getD xs j d) ≡ true)
+  pub found : (xs : List X) (d : X) (j : ℕ) → firstBy p xs ≡ Some j → (j < length xs) × (p (getD xs j d) ≡ true) × ((i : ℕ) → i < j → p (getD xs i d) ≡ false)
   found xs d j e = subst (FirstAt xs d) e (firstBy-at xs d)
 
   pub missing : (xs : List X) (d : X) → firstBy p xs ≡ None → (j : ℕ) → j < length xs → p (getD xs j d) ≡ false

@@ -10,7 +10,7 @@ use lib.ListN.{length, getD, drop}
 use Rattle.std.specs.Options.{isSome, mapped}
 use Rattle.std.specs.declared.option.Option.{Option}
 use Rattle.std.specs.declared.option.Option.the-variants.{Some, None}
-use Rattle.std.proofs.shelf.Tests.{both-ways, eq-eqb, cases-lt, lt-ltb, le-ltb, ltb-true, and-parts, and-from, not-true, not-from-false}
+use Rattle.std.proofs.shelf.Tests.{both-ways, eqb-true, eq-eqb, cases-lt, lt-ltb, le-ltb, ltb-true, and-parts, and-from, not-true, not-from-false}
 use Rattle.std.proofs.shelf.Lists.{length-take-le, length-drop}
 use Rattle.std.proofs.shelf.Sums.{sumBy-cons, getD-le-sumBy, sumBy-le}
 use Rattle.std.proofs.shelf.Elements.{all-from-getD}
@@ -38,15 +38,17 @@ none-from (Some x) e = absurd (both-ways true e refl)
 ltb-suc : (a b : ℕ) → ltb (suc a) (suc b) ≡ ltb a b
 ltb-suc a b = ⊎-elim (λ l. lt-ltb (suc a) (suc b) (omega arith) ∙ sym (lt-ltb a b l)) (λ l. le-ltb (suc a) (suc b) (omega arith) ∙ sym (le-ltb a b l)) (cases-lt a b)
 
-holding-present : (b : ℕ) (s : Slot) → sameSlot (Holding b) s ≡ true → present s ≡ true
-holding-present b Free e = refl
-holding-present b (Holding a) e = refl
-holding-present b Absent e = e
-
-free-present : (s : Slot) → sameSlot Free s ≡ true → present s ≡ true
-free-present Free e = refl
-free-present (Holding a) e = refl
-free-present Absent e = e
+-- two slots that are the same are equal
+pub same-is : (v s : Slot) → sameSlot v s ≡ true → s ≡ v
+same-is Free Free e = refl
+same-is Free (Holding b) e = absurd (both-ways false refl e)
+same-is Free Absent e = absurd (both-ways false refl e)
+same-is (Holding a) Free e = absurd (both-ways false refl e)
+same-is (Holding a) (Holding b) e = ap Holding (sym (eqb-true a b e))
+same-is (Holding a) Absent e = absurd (both-ways false refl e)
+same-is Absent Free e = absurd (both-ways false refl e)
+same-is Absent (Holding b) e = absurd (both-ways false refl e)
+same-is Absent Absent e = refl
 
 idle-other : (b : ℕ) (s : Slot) → busy s ≡ false → sameSlot (Holding b) s ≡ false
 idle-other b Free e = refl
@@ -87,20 +89,19 @@ module _ (bytes : List ℕ) (p : Places) (s : Sound bytes p) where
   pub flies-plain : (b : ℕ) → flies (plain bytes p) b ≡ isSome (place (Holding b) (p .slots))
   flies-plain b = some-mapped (λ j. block (p .blocks + j) bytes) (place (Holding b) (p .slots))
 
-  counted : (j : ℕ) → j < 8 → present (getD (p .slots) j Free) ≡ true → j < p .count
-  counted j l e = ltb-true j (p .count) (sym (s .there j l) ∙ e)
+  -- a place that was looked up is one of those that are there
+  pub there-at : (w : Slot) (j : ℕ) → present w ≡ true → place w (p .slots) ≡ Some j → j < p .count
+  there-at w j h e =
+      let f = found (sameSlot w) (p .slots) Free j e in
+      ltb-true j (p .count) (sym (s .there j (omega (arith, f .0, s .eight))) ∙ ap present (same-is w (getD (p .slots) j Free) (f .1)) ∙ h)
 
-  -- a block in flight is below the number of blocks, and its place is one of those that are there
-  pub held-at : (b j : ℕ) → place (Holding b) (p .slots) ≡ Some j → (j < p .count) × (b < p .blocks)
-  held-at b j e =
-      let f = found (sameSlot (Holding b)) (p .slots) Free j e in
-      let l : j < 8 = omega (arith, f .0, s .eight) in
-      (counted j l (holding-present b (getD (p .slots) j Free) (f .1)), s .below j b l (f .1))
+  -- a block in flight is below the number of blocks
+  pub held-below : (b j : ℕ) → place (Holding b) (p .slots) ≡ Some j → b < p .blocks
+  held-below b j e = let f = found (sameSlot (Holding b)) (p .slots) Free j e in s .below j b (omega (arith, f .0, s .eight)) (f .1)
 
-  pub free-at : (j : ℕ) → place Free (p .slots) ≡ Some j → j < p .count
-  free-at j e =
-      let f = found (sameSlot Free) (p .slots) Free j e in
-      counted j (omega (arith, f .0, s .eight)) (free-present (getD (p .slots) j Free) (f .1))
+  -- where there is a block, each place that is there lies within the bytes
+  pub place-fits : (b j : ℕ) → b < p .blocks → j < p .count → 256 * (p .blocks + j) + 256 ≤ length bytes
+  place-fits b j l h = omega (arith, s .long (omega arith))
 
   -- a free place is there just while fewer than k are in flight
   pub roomy : isSome (place Free (p .slots)) ≡ ltb (flights (p .slots)) (p .count)
@@ -120,14 +121,13 @@ module _ (bytes : List ℕ) (p : Places) (s : Sound bytes p) where
 
   flying-below : (b : ℕ) (o : Option ℕ) → place (Holding b) (p .slots) ≡ o → isSome o ≡ true → b < p .blocks
   flying-below b None e t = absurd (both-ways false refl t)
-  flying-below b (Some j) e t = held-at b j e .1
+  flying-below b (Some j) e t = held-below b j e
 
   whole-image : (b : ℕ) (image : List ℕ) (o : Option ℕ) → place (Holding b) (p .slots) ≡ o → mapped (λ j. block (p .blocks + j) bytes) o ≡ Some image → length image ≡ 256
   whole-image b image None e q = let z : _≡_ {A = ℕ} 0 1 = cc in absurd (omega arith)
   whole-image b image (Some j) e q =
       let w : block (p .blocks + j) bytes ≡ image = cc in
-      let h = held-at b j e in
-      ap length (sym w) ∙ length-block (p .blocks + j) bytes (omega (arith, h .0, h .1, s .long (omega (arith, h .1))))
+      ap length (sym w) ∙ length-block (p .blocks + j) bytes (place-fits b j (held-below b j e) (there-at (Holding b) j refl e))
 
   pub lawful-plain : Lawful (plain bytes p)
   lawful-plain = record {

@@ -13,7 +13,7 @@ use Rattle.refusal.specs.declared.Refusal.{Refusal}
 use Rattle.refusal.specs.declared.Refusal.the-variants.{UnfitBytes}
 use Rattle.disk.specs.Meaning.{Meaning}
 use Rattle.disks.specs.declared.places.Places.{Places}
-use Rattle.disks.specs.declared.places.Slot.the-variants.{Free, Holding}
+use Rattle.disks.specs.declared.places.Slot.the-variants.{Free, Holding, Absent}
 use Rattle.disks.specs.Rows.{block, putBlock}
 use Rattle.disks.specs.Slots.{sameSlot, present, place, flights}
 use Rattle.disks.specs.Places.{putSlot}
@@ -51,13 +51,16 @@ pub record Sound (bytes : List ℕ) (p : Places) : Type 0 where
 -- start takes the lowest free place, puts the image there, and leaves all else as it was
 pub record PlainStart (old : List ℕ) (p : Places) (b : ℕ) (image : List ℕ) (new : List ℕ) (q : Places) : Type 0 where
   pub at : ℕ
-  pub lowest : place Free (p .slots) ≡ Some at
+  pub found : place Free (p .slots) ≡ Some at
+  pub free : getD (p .slots) at Absent ≡ Free
+  pub lowest : (i : ℕ) → i < at → getD (p .slots) i Absent ≡ Free → ⊥
   pub bytes : new ≡ putBlock (p .blocks + at) image old
   pub places : q ≡ putSlot at (Holding b) p
 
 -- finish copies the image from its place to the medium, frees the place, and leaves all else as it was
 pub record PlainFinish (old : List ℕ) (p : Places) (b : ℕ) (new : List ℕ) (q : Places) : Type 0 where
   pub at : ℕ
-  pub held : place (Holding b) (p .slots) ≡ Some at
+  pub found : place (Holding b) (p .slots) ≡ Some at
+  pub held : getD (p .slots) at Absent ≡ Holding b
   pub bytes : new ≡ putBlock b (block (p .blocks + at) old) old
   pub places : q ≡ putSlot at Free p

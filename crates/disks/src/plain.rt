@@ -83,7 +83,7 @@ impl Plain<'_> {
         requires { ⌜ 256 * (now self .places .blocks + j) + 256 ≤ length (now (now self .bytes)) ⌝ }
         ensures { λ r. ⌜ r ≡ now (self .entry) .places .blocks + j ⌝ }
     {
-        self.places.blocks as usize + j
+        j + self.places.blocks as usize
     }
 
     // Copies out the image in place j.
