@@ -1,3 +1,5 @@
+#![tactic(auto)]
+
 ghost use Rattle.std.specs.Prelude.{◌≡◌, ℕ, List, Decides};
 ghost use Rattle.disk.specs.Meaning.{Meaning, Lawful, Still, flies};
 ghost use Rattle.disk.specs.Rules.{ReadRule, StartRule, FinishRule, ImageRule, Accepted, Refused};

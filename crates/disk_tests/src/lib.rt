@@ -1,4 +1,6 @@
 // Examples of the disks and of what a loss of supply leaves, run.
+#![tactic(auto)]
+
 #[cfg(test)]
 mod faulty;
 

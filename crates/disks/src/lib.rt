@@ -1,3 +1,5 @@
+#![tactic(auto)]
+
 mod places;
 mod plain;
 mod rows;

@@ -1,3 +1,5 @@
+#![tactic(auto)]
+
 mod join;
 
 pub use join::Join;

@@ -1,4 +1,6 @@
 // Starts and finishes writes on a small plain disk, and shows what a loss of supply can leave in between.
+#![tactic(auto)]
+
 use disk::{BLOCK, Disk, InFlight, Outcome};
 use disks::Plain;
 use power_loss::{State, Unlisted, states};

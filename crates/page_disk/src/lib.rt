@@ -1,3 +1,5 @@
+#![tactic(auto)]
+
 ghost use Rattle.page_disk.specs.Runs.{WearCounted, WornOut, CanWearOut};
 
 mod paged;

@@ -1,7 +1,10 @@
-ghost use Rattle.std.specs.Prelude.{◌≡◌, Some, Decides};
+#![tactic(auto)]
+
+ghost use Rattle.std.specs.Prelude.{◌≡◌, Some, Decides, nat_eq};
 ghost use Rattle.refusal.specs.Codes.{code_of, place_of, shown_as, Tells};
 ghost use Rattle.std.specs.Cmp.Rules.{comparing};
 ghost use Rattle.std.proofs.Common.{rules};
+ghost use Rattle.std.specs.Ordering.{on, eq_of_both};
 ghost use Rattle.std.specs.Cmp as Keys;
 
 use std::fmt;
@@ -112,11 +115,14 @@ impl fmt::Display for Refusal {
 }
 
 impl PartialEq for Refusal {
-    ghost equals = { λ a b r. Decides r (a ≡ b) };
+    ghost eq = { eq_of_both (on code_of nat_eq) (on place_of nat_eq) };
 
     ghost laws = { Keys.partial_equiv_from_equiv (Prim.search (comparing, rules)) };
 
-    fn eq(&self, other: &Refusal) -> bool {
+    fn eq(&self, other: &Refusal) -> bool
+        ensures value { result ≡ eq_of_both (on code_of nat_eq) (on place_of nat_eq) self.now other.now }
+        ensures same { Decides result (self.now ≡ other.now) }
+    {
         self.code() == other.code() && self.place() == other.place()
     }
 }
