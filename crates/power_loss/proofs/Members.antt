@@ -1,11 +1,9 @@
 -- Which blocks are among those of a list.
-use Rattle.std.proofs.Common.{◌≡◌, ℕ, zero, suc, ◌+◌, ◌<◌, ◌≤◌, Bool, true, false, cond, ◌&&◌, ◌||◌, eqb, List, [], ◌∷◌, ◌++◌, Decides, filter, sym, refl, ap, ◌∙◌, ⊎_elim, append-nil, map-id, arith}
-use Rattle.std.specs.List.{range_with_len, IsAnyAnswer, ContainsAt as Has}
+use Rattle.std.proofs.Common.{◌≡◌, ℕ, zero, suc, ◌+◌, ◌<◌, ◌≤◌, Bool, true, false, cond, ◌&&◌, ◌||◌, eqb, List, [], ◌∷◌, ◌++◌, filter, refl, ap, ◌∙◌, ⊎_elim, append-nil, map-id, arith}
+use Rattle.std.specs.List.{range_with_len, list_any}
 use Rattle.std.proofs.lemmas.List.FromFn.{filter_of_map_range_with_len_more}
-use Rattle.std.proofs.lemmas.List.Elements.{contains_decides}
-use Rattle.std.proofs.lemmas.Bool.{cases_Bool, cases_lt, cond-true, cond-false, eqb-true, eq-eqb, ne_eqb, or_left, or_right, or_cases, cond_both, both_ways}
+use Rattle.std.proofs.lemmas.Bool.{cases_lt, cond-true, cond-false, eqb-true, eq-eqb, ne_eqb, or_left, or_right, cond_both}
 use Rattle.power_loss.specs.States.{among}
-use Rattle.std.proofs.lemmas.Bool.Decides.{Decides-eqb}
 
 -- one more block in front
 pub among-here : (x b : ℕ) (xs : List ℕ) → x ≡ b → among (x ∷ xs) b ≡ true
@@ -55,22 +53,7 @@ apart-kept p a (suc n) =
     let out = among-kept-by p (range_with_len (a + 1) n) a ∙ ap (λ t. t && p a) (among-counting-below (a + 1) n a (omega arith)) in
     cond_both (p a) (a ∷ filter p (range_with_len (a + 1) n)) (filter p (range_with_len (a + 1) n)) Apart (λ _. (out, rest)) (λ _. rest)
 
--- what a search of the list finds
-has-among : (xs : List ℕ) (b : ℕ) → Has xs b → among xs b ≡ true
-has-among [] b (k, l, h) = absurd (omega arith)
-has-among (x ∷ xs) b (zero, l, h) = among-here x b xs (h 0)
-has-among (x ∷ xs) b (suc k, l, h) = or_right (eqb x b) (among xs b) (has-among xs b (k, omega arith, h))
-
-among-has : (xs : List ℕ) (b : ℕ) → among xs b ≡ true → Has xs b
-among-has [] b h = absurd (both_ways false refl h)
-among-has (x ∷ xs) b h =
-    ⊎_elim (λ e. (0, omega arith, λ d. eqb-true x b e))
-    (λ t. let r = among-has xs b t in (suc r.0, omega (arith, r.1), r.2))
-    (or_cases (eqb x b) (among xs b) h)
-
-pub contains-among : (xs : List ℕ) (b : ℕ) (r : Bool) → IsAnyAnswer (λ y t. Decides t (y ≡ b)) xs r → r ≡ among xs b
-contains-among xs b r h =
-    let d = contains_decides eqb Decides-eqb xs b r h in
-    ⊎_elim (λ t. d.1 (among-has xs b t) ∙ sym t)
-    (λ f. ⊎_elim (λ t. absurd (both_ways (among xs b) f (has-among xs b (d.0 t)))) (λ u. u ∙ sym f) (cases_Bool r))
-    (cases_Bool (among xs b))
+-- what a search of the list answers
+pub contains-among : (xs : List ℕ) (b : ℕ) → list_any (λ y. eqb y b) xs ≡ among xs b
+contains-among [] b = refl
+contains-among (x ∷ xs) b = ap (λ t. eqb x b || t) (contains-among xs b)

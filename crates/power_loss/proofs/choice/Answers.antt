@@ -3,7 +3,7 @@ use Rattle.std.proofs.lemmas.Slice.{pushed}
 use Rattle.power_loss.specs.Numbered.{picked}
 use Rattle.power_loss.proofs.Picks.{pick_more, skip-more, pick_all}
 use Rattle.power_loss.proofs.choice.Goals as goal
-use Rattle.power_loss.proofs.choice.Goals.{then-rest-eq1+in-ok-push, else-rest-eq1}
+use Rattle.power_loss.proofs.choice.Goals.{then-rest-eq1+in_ok-push, else-rest-eq1}
 
 pub loop-b-preserved : goal.loop-b-preserved
 loop-b-preserved c =
@@ -13,9 +13,9 @@ loop-b-preserved c =
     let ws = vec_items c.loop-b.written in
     let left = picked (n / 2) (drop (i + 1) fl) in
     elim c.if-rest-eq1.branch [
-      | then-rest-eq1+in-ok-push w ↦
+      | then-rest-eq1+in_ok-push w ↦
           ap (λ v. vec_items v ++ left) w.written-is
-          ∙ ap (λ l. l ++ left) (pushed (get_or fl i 0 ∷ []) refl w.in-ok-push.was w.push.ensures.items)
+          ∙ ap (λ l. l ++ left) (pushed (get_or fl i 0 ∷ []) refl w.in_ok-push.was w.push.ensures.items)
           ∙ pick_more ws fl n i (omega arith) w.if-rest-eq1.true
           ∙ c.loop-b.invariant
       | else-rest-eq1 w ↦

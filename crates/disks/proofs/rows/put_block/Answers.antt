@@ -10,4 +10,4 @@ returns c =
     let xs = c.args.row.now in
     let k : (a + 256) - a ≡ 256 = omega arith in
     let tail : drop ((a + 256) - a) (drop a xs) ≡ drop (a + 256) xs = ap (λ (n : ℕ). drop n (drop a xs)) k ∙ drop-drop 256 a xs in
-    ap (λ (ys : List ℕ). take a xs ++ (ys ++ drop ((a + 256) - a) (drop a xs))) c.copy-from-slice.ensures.after ∙ ap (λ (zs : List ℕ). take a xs ++ (c.args.image.now ++ zs)) tail
+    ap (λ (ys : List ℕ). take a xs ++ (ys ++ drop ((a + 256) - a) (drop a xs))) c.copy_from_slice.ensures.after ∙ ap (λ (zs : List ℕ). take a xs ++ (c.args.image.now ++ zs)) tail

@@ -12,7 +12,7 @@ loop-i-preserved c =
     let ss = c.loop-i.slots in
     let i = c.loop-i.i in
     let P : Slot → Type 0 = λ s. (j : ℕ) → j < i + 1 → get_or (set ss i s) j Free ≡ fresh_slot k j in
-    (length-set _ _ _ ∙ c.loop-i.invariant.0, subst P (sym c.fresh-slot.ensures) (fill_by_more (fresh_slot k) ss i Free (omega (arith, c.loop-i.invariant.0)) c.loop-i.invariant.1))
+    (length-set _ _ _ ∙ c.loop-i.invariant.0, subst P (sym c.fresh_slot.ensures) (fill_by_more (fresh_slot k) ss i Free (omega (arith, c.loop-i.invariant.0)) c.loop-i.invariant.1))
 
 pub returns : goal.returns
 returns c =

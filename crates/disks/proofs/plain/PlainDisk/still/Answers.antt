@@ -8,6 +8,6 @@ returns c =
     let x = c.args.self.now in
     let bytes = x.bytes.now in
     let p = x.places in (
-      (λ t b l. flies-plain bytes p c.requires b ∙ ap is_some (idle-place p.slots (eqb-true _ 0 (sym c.is-idle.ensures ∙ t)) b)),
-      (λ still. c.is-idle.ensures ∙ eq-eqb _ 0 (still-idle bytes p c.requires still)),
+      (λ t b l. flies-plain bytes p c.requires b ∙ ap is_some (idle-place p.slots (eqb-true _ 0 (sym c.is_idle.ensures ∙ t)) b)),
+      (λ still. c.is_idle.ensures ∙ eq-eqb _ 0 (still-idle bytes p c.requires still)),
     )

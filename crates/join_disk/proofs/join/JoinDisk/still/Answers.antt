@@ -11,6 +11,6 @@ returns-else-blocks-eq0 g c =
     let r = g.R.Disk.meaning x.right in
     let m = joined l r in
     let s = sides-joined l r in (
-      (λ t. let each = c.sides-still.ensures.0 t in on_both l r m s (λ b. flies m b ≡ false) (λ b q o. ap is_some o.air ∙ each.0 b q) (λ b q o. ap is_some o.air ∙ each.1 b q)),
-      (λ still. c.sides-still.ensures.1 (still-each l r m s 0 (omega arith) still)),
+      (λ t. let each = c.sides_still.ensures.0 t in on_both l r m s (λ b. flies m b ≡ false) (λ b q o. ap is_some o.air ∙ each.0 b q) (λ b q o. ap is_some o.air ∙ each.1 b q)),
+      (λ still. c.sides_still.ensures.1 (still-each l r m s 0 (omega arith) still)),
     )

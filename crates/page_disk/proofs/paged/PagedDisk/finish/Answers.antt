@@ -8,11 +8,11 @@ use Rattle.page_disk.proofs.paged.PagedDisk.finish.Goals as goal
 pub end-requires : goal.end-requires
 end-requires c =
     let ps = c.args.self.now.pages.pages in
-    let image = found-page (Image c.args.b) ps c.in-Some-image-of.j (sym c.image-of.ensures ∙ c.in-Some-image-of.is) in
-    let medium = found-page (Medium c.args.b) ps c.in-Some.old (sym c.page-of.ensures ∙ c.in-Some.is) in
+    let image = found-page (Image c.args.b) ps c.in-Some-image_of.j (sym c.image_of.ensures ∙ c.in-Some-image_of.is) in
+    let medium = found-page (Medium c.args.b) ps c.in-Some.old (sym c.page_of.ensures ∙ c.in-Some.is) in
     record {
       pages = (c.requires.eighty, c.requires.lives);
-      within = (omega (arith, c.requires.eighty, in_table ps c.in-Some-image-of.j (Image c.args.b) image refl), omega (arith, c.requires.eighty, in_table ps c.in-Some.old (Medium c.args.b) medium refl));
+      within = (omega (arith, c.requires.eighty, in_table ps c.in-Some-image_of.j (Image c.args.b) image refl), omega (arith, c.requires.eighty, in_table ps c.in-Some.old (Medium c.args.b) medium refl));
     }
 
 pub returns : goal.returns
@@ -22,12 +22,12 @@ returns c =
     let t = x.pages in
     let u = c.end.new.self in
     let b = c.args.b in
-    let held = sym c.image-of.ensures ∙ c.in-Some-image-of.is in
+    let held = sym c.image_of.ensures ∙ c.in-Some-image_of.is in
     let f : PageFinish bytes t b c.end.result bytes u = record {
-      at = c.in-Some-image-of.j;
-      image = found-page (Image b) t.pages c.in-Some-image-of.j held;
+      at = c.in-Some-image_of.j;
+      image = found-page (Image b) t.pages c.in-Some-image_of.j held;
       home = c.in-Some.old;
-      medium = found-page (Medium b) t.pages c.in-Some.old (sym c.page-of.ensures ∙ c.in-Some.is);
+      medium = found-page (Medium b) t.pages c.in-Some.old (sym c.page_of.ensures ∙ c.in-Some.is);
       end = c.end.ensures;
       same = refl;
     } in

@@ -7,8 +7,8 @@ use Rattle.page_disk.specs.Laws.{flies-paged, in_table}
 use Rattle.page_disk.proofs.Turns.{open-while, best-spare, started}
 use Rattle.page_disk.proofs.paged.PagedDisk.start.Goals as goal
 
-pub returns-in-default : goal.returns-in-default
-returns-in-default c =
+pub returns-in_default : goal.returns-in_default
+returns-in_default c =
     let x = c.args.self.now in
     let bytes = x.bytes.now in
     let t = x.pages in
@@ -16,7 +16,7 @@ returns-in-default c =
     let idle : place (Image b) t.pages ≡ None = none_from _ (search rules) in
     record {
       keeps = c.requires;
-      rule = (refl, (omega arith, omega arith, flies-paged bytes t c.requires b ∙ ap is_some idle, open-while bytes t b idle (omega arith) ∙ best-spare t.pages t.lives c.best.result c.best.ensures ∙ ap is_some c.in-default.is));
+      rule = (refl, (omega arith, omega arith, flies-paged bytes t c.requires b ∙ ap is_some idle, open-while bytes t b idle (omega arith) ∙ best-spare t.pages t.lives c.best.result c.best.ensures ∙ ap is_some c.in_default.is));
       same = refl;
       starts = tt;
     }

@@ -9,6 +9,6 @@ returns c =
     let x = c.args.self.now in
     let bytes = x.bytes.now in
     let t = x.pages in (
-      (λ yes b l. flies-paged bytes t c.requires b ∙ ap is_some (idle-image t.pages (none_from _ (not-true _ (sym c.is-idle.ensures ∙ yes))) b)),
-      (λ still. c.is-idle.ensures ∙ not_from_false _ (ap is_some (still-idle bytes t c.requires still))),
+      (λ yes b l. flies-paged bytes t c.requires b ∙ ap is_some (idle-image t.pages (none_from _ (not-true _ (sym c.is_idle.ensures ∙ yes))) b)),
+      (λ still. c.is_idle.ensures ∙ not_from_false _ (ap is_some (still-idle bytes t c.requires still))),
     )
