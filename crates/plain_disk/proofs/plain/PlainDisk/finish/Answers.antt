@@ -8,7 +8,7 @@ use Rattle.plain_disk.proofs.plain.PlainDisk.finish.Goals as goal
 pub land-requires : goal.land-requires
 land-requires c =
     let x = c.args.self.now in
-    let held = sym c.place-of.ensures ∙ c.in-Some.is in
+    let held = sym c.place_of.ensures ∙ c.in-Some.is in
     record {
       source = source_fits x.bytes.now x.places c.requires c.args.b c.in-Some.j held;
       target = target_fits x.bytes.now x.places c.requires c.args.b c.in-Some.j held;
@@ -19,7 +19,7 @@ pub returns : goal.returns
 returns c =
     let x = c.args.self.now in
     let y = c.land.new.self in
-    let held = sym c.place-of.ensures ∙ c.in-Some.is in
+    let held = sym c.place_of.ensures ∙ c.in-Some.is in
     let f : PlainFinish x.bytes.now x.places c.args.b y.bytes.now y.places = record { at = c.in-Some.j; found = held; held = found-slot (Holding c.args.b) x.places.slots c.in-Some.j held; bytes = c.land.ensures.bytes; places = c.land.ensures.places } in
     let r = finished x.bytes.now x.places c.args.b y.bytes.now y.places c.requires f in
     record {

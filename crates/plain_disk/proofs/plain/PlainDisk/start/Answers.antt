@@ -7,10 +7,10 @@ use Rattle.plain_disk.specs.Laws.{there-at, place-fits, flies-plain}
 use Rattle.plain_disk.proofs.Turns.{open-while, found-slot, lower-slots, started}
 use Rattle.plain_disk.proofs.plain.PlainDisk.start.Goals as goal
 
-pub returns-in-default : goal.returns-in-default
-returns-in-default c =
+pub returns-in_default : goal.returns-in_default
+returns-in_default c =
     let x = c.args.self.now in
-    let none = sym c.free-place.ensures ∙ c.in-default.is in
+    let none = sym c.free_place.ensures ∙ c.in_default.is in
     let idle : place (Holding c.args.b) x.places.slots ≡ None = none_from _ (search rules) in
     record {
       keeps = c.requires;
@@ -22,7 +22,7 @@ returns-in-default c =
 pub take-requires : goal.take-requires
 take-requires c =
     let x = c.args.self.now in
-    let lowest = sym c.free-place.ensures ∙ c.in-Some.is in
+    let lowest = sym c.free_place.ensures ∙ c.in-Some.is in
     let here = there-at x.bytes.now x.places c.requires Free c.in-Some.j refl lowest in
     record {
       within = place-fits x.bytes.now x.places c.requires c.args.b c.in-Some.j (omega arith) here;
@@ -36,7 +36,7 @@ returns c =
     let y = c.take.new.self in
     let b = c.args.b in
     let image = c.args.image.now in
-    let lowest = sym c.free-place.ensures ∙ c.in-Some.is in
+    let lowest = sym c.free_place.ensures ∙ c.in-Some.is in
     let idle : place (Holding b) x.places.slots ≡ None = none_from _ (search rules) in
     let st : PlainStart x.bytes.now x.places b image y.bytes.now y.places = record { at = c.in-Some.j; found = lowest; free = found-slot Free x.places.slots c.in-Some.j lowest; lowest = lower-slots Free x.places.slots c.in-Some.j refl lowest; bytes = c.take.ensures.bytes; places = c.take.ensures.places } in
     let r = started x.bytes.now x.places b image y.bytes.now y.places c.requires idle (omega arith) (omega arith) st in

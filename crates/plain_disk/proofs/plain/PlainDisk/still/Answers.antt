@@ -9,6 +9,6 @@ returns c =
     let x = c.args.self.now in
     let bytes = x.bytes.now in
     let p = x.places in (
-      (λ yes b l. flies-plain bytes p c.requires b ∙ ap is_some (idle-place p.slots (none_from _ (not-true _ (sym c.is-idle.ensures ∙ yes))) b)),
-      (λ still. c.is-idle.ensures ∙ not_from_false _ (ap is_some (still-idle bytes p c.requires still))),
+      (λ yes b l. flies-plain bytes p c.requires b ∙ ap is_some (idle-place p.slots (none_from _ (not-true _ (sym c.is_idle.ensures ∙ yes))) b)),
+      (λ still. c.is_idle.ensures ∙ not_from_false _ (ap is_some (still-idle bytes p c.requires still))),
     )
