@@ -230,6 +230,25 @@ mod tests {
         Ok(())
     }
 
+    // The plain disk over rows answers the same tables.
+    #[test]
+    fn plain_disk_over_rows(rt: HostRuntime) -> Result<(), Fail> {
+        let mut small = [9u8; 768];
+        let mut large = [0u8; 4352];
+        assert_eq!(rt; plain_disk::Plain::check(&small, 2, 1), Ok(()));
+        assert_eq!(rt;
+            plain_disk::Plain::check(&small, 3, 1),
+            Err(Refusal::UnfitBytes)
+        );
+        plays(&mut plain_disk::Plain::new(&mut small, 2, 1), &ONE_PLACE)?;
+        plays(&mut plain_disk::Plain::new(&mut small, 3, 1), &NO_BLOCKS)?;
+        plays(&mut plain_disk::Plain::new(&mut large, 9, 8), &FULL_AIR)?;
+        assert_eq!(rt; small[255], 1);
+        assert_eq!(rt; small[256], 9);
+        assert_eq!(rt; large[2304 + 256 * 3], 2);
+        Ok(())
+    }
+
     #[test]
     fn fitting_pages(rt: HostRuntime) {
         let bytes = [0u8; 20736];

@@ -1,5 +1,6 @@
 -- The number of each refusal, its place, and how it is shown.
-use Rattle.std.specs.Prelude.{◌≡◌, ℕ, List, ◌++◌, codes, decimal}
+use Rattle.std.specs.Prelude.{◌≡◌, ℕ, Bool, List, ◌++◌, codes, decimal, nat_eq}
+use Rattle.std.specs.Ordering.{on, eq_of_both}
 use Rattle.refusal.specs.declared.Refusal.{Refusal}
 use Rattle.refusal.specs.declared.Refusal.TheVariants.{UnfitBytes, NoSuchBlock, BadByteRange, TooManyNames, UnknownPatch, UnknownGroup, BadScriptLength, MisplacedWord, ShortReportList, GroupNotLower, ShortText, SetNotClosed, PatchTableFull, GroupTableFull, WrongGroupState, GroupNamesFull, BlockInFlight, BlockNotInFlight, NothingToSend, BlockNotOpen, NumbersUsedUp, UnfitBuffer, TooManyHeld}
 
@@ -58,6 +59,10 @@ place_of TooManyHeld = 0
 -- no two refusals share a number and a place
 abbrev pub Tells : Refusal → ℕ → Type 0
 Tells refusal code = (other : Refusal) → code_of other ≡ code → place_of other ≡ place_of refusal → other ≡ refusal
+
+-- whether two refusals have the same number and the same place; `same_refusal-decides` of proofs/Same.antt says that they then are the same
+abbrev pub same_refusal : Refusal → Refusal → Bool
+same_refusal = eq_of_both (on code_of nat_eq) (on place_of nat_eq)
 
 -- as in "refused 8 3": the number, then the place
 abbrev pub shown_as : Refusal → List ℕ

@@ -1,10 +1,9 @@
 #![tactic(auto)]
 
-ghost use Rattle.std.specs.Prelude.{◌≡◌, Some, Decides, nat_eq};
-ghost use Rattle.refusal.specs.Codes.{code_of, place_of, shown_as, Tells};
+ghost use Rattle.std.specs.Prelude.{◌≡◌, Some, Decides};
+ghost use Rattle.refusal.specs.Codes.{code_of, place_of, same_refusal, shown_as, Tells};
 ghost use Rattle.std.specs.Cmp.Rules.{comparing};
 ghost use Rattle.std.proofs.Common.{rules};
-ghost use Rattle.std.specs.Ordering.{on, eq_of_both};
 ghost use Rattle.std.specs.Cmp as Keys;
 
 use std::fmt;
@@ -115,12 +114,12 @@ impl fmt::Display for Refusal {
 }
 
 impl PartialEq for Refusal {
-    ghost eq = { eq_of_both (on code_of nat_eq) (on place_of nat_eq) };
+    ghost eq = { same_refusal };
 
     ghost laws = { Keys.partial_equiv_from_equiv (Prim.search (comparing, rules)) };
 
     fn eq(&self, other: &Refusal) -> bool
-        ensures value { result ≡ eq_of_both (on code_of nat_eq) (on place_of nat_eq) self.now other.now }
+        ensures value { result ≡ same_refusal self.now other.now }
         ensures same { Decides result (self.now ≡ other.now) }
     {
         self.code() == other.code() && self.place() == other.place()
