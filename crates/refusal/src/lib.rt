@@ -2,9 +2,9 @@
 
 ghost use Rattle.std.specs.Prelude.{◌≡◌, Some, Decides};
 ghost use Rattle.refusal.specs.Codes.{code_of, place_of, same_refusal, shown_as, Tells};
+ghost use Rattle.std.specs.Cmp.{partial_equiv_from_equiv};
 ghost use Rattle.std.specs.Cmp.Rules.{comparing};
 ghost use Rattle.std.proofs.Common.{rules};
-ghost use Rattle.std.specs.Cmp as Keys;
 
 use std::fmt;
 
@@ -116,7 +116,7 @@ impl fmt::Display for Refusal {
 impl PartialEq for Refusal {
     ghost eq = { same_refusal };
 
-    ghost laws = { Keys.partial_equiv_from_equiv (Prim.search (comparing, rules)) };
+    ghost laws = { partial_equiv_from_equiv (Prim.search (comparing, rules)) };
 
     fn eq(&self, other: &Refusal) -> bool
         ensures value { result ≡ same_refusal self.now other.now }
