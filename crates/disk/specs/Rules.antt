@@ -55,6 +55,11 @@ abbrev pub CheckRule : Type 0 → Result (Unit {0}) Refusal → Type 0
 CheckRule fits (Ok x) = fits
 CheckRule fits (Err e) = (e ≡ UnfitBytes) × (fits → ⊥)
 
+-- a block that is not below the number of blocks is refused, and no other
+abbrev pub BlockRule : ℕ → ℕ → Result (Unit {0}) Refusal → Type 0
+BlockRule b blocks (Ok x) = b < blocks
+BlockRule b blocks (Err e) = (e ≡ NoSuchBlock) × (blocks ≤ b)
+
 -- the image is in flight at b; the open set is free but for its laws
 pub record StartEffect (m : Meaning) (b : ℕ) (image : List ℕ) (after : Meaning) : Type 0 where
   pub blocks : after.blocks ≡ m.blocks

@@ -2,7 +2,7 @@ ghost use Rattle.std.specs.Prelude.{◌≡◌, ◌<◌, Some, None};
 ghost use Rattle.disk.specs.declared.Outcome.TheVariants.{Failed};
 ghost use Rattle.disk_tests.specs.Faulty.{faulty, Sound, lawful-faulty};
 
-use disk::{BLOCK, Disk, InFlight, Outcome};
+use disk::{BLOCK, Disk, InFlight, Outcome, check_block, check_bytes};
 use refusal::Refusal;
 
 // A disk of zeros with one place, on which every write fails in the given layer.
@@ -10,94 +10,79 @@ use refusal::Refusal;
 pub struct Faulty {
     blocks: u16,
     layer: u8,
-    flying: Option<u16>,
-    image: [u8; BLOCK],
+    // The block in flight, and its image.
+    flight: Option<(u16, [u8; BLOCK])>,
+    // The layer counts from 1, and the block in flight is below the number of blocks, with a whole image.
+    ghost sound: { Sound blocks layer flight },
 }
 
 impl Faulty {
     pub fn new(blocks: u16, layer: u8) -> Faulty
         requires { 0 < layer }
-        ensures { Sound result.blocks result.layer result.flying result.image }
     {
         Faulty {
             blocks,
             layer,
-            flying: None,
-            image: [0; BLOCK],
+            flight: None,
         }
     }
 }
 
 impl Disk for Faulty {
-    ghost meaning = { λ x. faulty x.blocks x.flying x.image };
+    ghost meaning = { λ x. faulty x.blocks x.flight };
 
-    ghost sound = { λ x. Sound x.blocks x.layer x.flying x.image };
-
-    ghost lawful = { λ x s. lawful-faulty x.blocks x.layer x.flying x.image s };
+    ghost lawful = { λ x. lawful-faulty x.blocks x.layer x.flight x.sound };
 
     ghost reads = { λ x _ y. y ≡ x };
 
-    ghost starts = { λ x b image y. (y.flying ≡ Some b) × (y.image ≡ image) × (y.blocks ≡ x.blocks) × (y.layer ≡ x.layer) };
+    ghost starts = { λ x b image y. (y.flight ≡ Some (b, image)) × (y.blocks ≡ x.blocks) × (y.layer ≡ x.layer) };
 
-    ghost ends = { λ x b o y. (o ≡ Failed x.layer b) × (y.flying ≡ None) × (y.image ≡ x.image) × (y.blocks ≡ x.blocks) × (y.layer ≡ x.layer) };
+    ghost ends = { λ x b o y. (o ≡ Failed x.layer b) × (y.flight ≡ None) × (y.blocks ≡ x.blocks) × (y.layer ≡ x.layer) };
 
     fn blocks(&self) -> u16 {
         self.blocks
     }
 
     fn still(&self) -> bool {
-        self.flying.is_none()
+        self.flight.is_none()
     }
 
     fn flying(&self, b: u16) -> bool {
-        match self.flying {
-            Some(a) => a == b,
-            None => false,
-        }
+        matches!(self.flight, Some((a, _)) if a == b)
     }
 
     fn is_open(&self, b: u16) -> bool {
-        b < self.blocks && self.flying.is_none()
+        b < self.blocks && self.flight.is_none()
     }
 
     fn read(&mut self, b: u16, into: &mut [u8]) -> Result<(), Refusal> {
-        if into.len() != BLOCK {
-            return Err(Refusal::UnfitBytes);
-        }
-        if b >= self.blocks {
-            return Err(Refusal::NoSuchBlock);
-        }
+        check_bytes(into)?;
+        check_block(b, self.blocks)?;
         into.copy_from_slice(&[0; BLOCK]);
         Ok(())
     }
 
     fn start(&mut self, b: u16, image: &[u8]) -> Result<(), Refusal> {
-        if image.len() != BLOCK {
-            return Err(Refusal::UnfitBytes);
+        check_bytes(image)?;
+        check_block(b, self.blocks)?;
+        match self.flight {
+            Some((a, _)) if a == b => Err(Refusal::BlockInFlight),
+            Some(_) => Err(Refusal::BlockNotOpen),
+            None => {
+                let mut bytes = [0; BLOCK];
+                bytes.copy_from_slice(image);
+                self.flight = Some((b, bytes));
+                Ok(())
+            }
         }
-        if b >= self.blocks {
-            return Err(Refusal::NoSuchBlock);
-        }
-        if let Some(a) = self.flying {
-            return Err(if a == b {
-                Refusal::BlockInFlight
-            } else {
-                Refusal::BlockNotOpen
-            });
-        }
-        self.image.copy_from_slice(image);
-        self.flying = Some(b);
-        Ok(())
     }
 
     fn finish(&mut self, b: u16) -> Result<Outcome, Refusal> {
-        if b >= self.blocks {
-            return Err(Refusal::NoSuchBlock);
-        }
+        check_block(b, self.blocks)?;
         if !self.flying(b) {
             return Err(Refusal::BlockNotInFlight);
         }
-        self.flying = None;
+        self.flight = None;
         Ok(Outcome::Failed {
             layer: self.layer,
             block: b,
@@ -107,16 +92,14 @@ impl Disk for Faulty {
 
 impl InFlight for Faulty {
     fn image(&self, b: u16, into: &mut [u8]) -> Result<(), Refusal> {
-        if into.len() != BLOCK {
-            return Err(Refusal::UnfitBytes);
-        }
-        if b >= self.blocks {
-            return Err(Refusal::NoSuchBlock);
-        }
+        check_bytes(into)?;
+        check_block(b, self.blocks)?;
         if !self.flying(b) {
             return Err(Refusal::BlockNotInFlight);
         }
-        into.copy_from_slice(&self.image);
+        if let Some(flight) = &self.flight {
+            into.copy_from_slice(&flight.1);
+        }
         Ok(())
     }
 }

@@ -8,23 +8,23 @@ mod faulty;
 mod tests {
     use crate::faulty::Faulty;
     use disk::{BLOCK, Disk, InFlight, Outcome};
-    use disks::Plain;
     use join_disk::Join;
     use page_disk::Paged;
+    use plain_disk::Plain;
     use power_loss::states;
     use refusal::Refusal;
     use rows::{get_block, move_block, put_block};
     use std::fmt::Debug;
     use std::test::Fail;
 
-    // A call of a disk.
+    // A call of a disk; no closure, so that one table of calls is played over several disks.
     #[derive(Clone, Copy, Debug)]
     enum Step {
         // Start a block with an image of one byte, or with one that is a byte short.
         Start(u16, u8),
         StartShort(u16),
         Finish(u16),
-        // Read a block, or into a byte too few.
+        // Read a block, whole or into a byte too few.
         Read(u16),
         ReadShort(u16),
         // Copy out an image in flight.
@@ -35,75 +35,34 @@ mod tests {
         IsOpen(u16),
     }
 
-    // A question's number, 1 for yes; 0 for an accepted call, else its refusal; the first byte that was copied out.
-    // A failed write answers the block and the layer, which is 1 or more.
-    type Answer = (u16, u8);
-
-    fn code<T: Drop>(r: Result<T, Refusal>) -> u16 {
-        match r {
-            Ok(_) => 0,
-            Err(why) => u16::from(why.code()),
-        }
+    // What a call answers, and the first byte of the bytes that it copies into.
+    #[derive(Clone, Copy, PartialEq, Eq, Debug)]
+    enum Answer {
+        Number(u16),
+        Truth(bool),
+        Started(Result<(), Refusal>),
+        Finished(Result<Outcome, Refusal>),
+        Copied(Result<(), Refusal>, u8),
     }
 
-    fn ended(r: Result<Outcome, Refusal>) -> Answer {
-        match r {
-            Ok(Outcome::Written) => (0, 0),
-            Ok(Outcome::Failed { layer, block }) => (block, layer),
-            Err(why) => (u16::from(why.code()), 0),
-        }
-    }
-
-    fn write<D: Disk>(disk: &mut D, step: Step) -> Answer
-        requires { D.Disk.sound disk.old }
-        ensures { D.Disk.sound disk.new }
-    {
+    // Makes the call; the bytes to copy into begin as sevens.
+    fn call<D: InFlight>(disk: &mut D, step: Step) -> Answer {
+        let mut block = [7; BLOCK];
         match step {
-            Step::Start(b, byte) => (code(disk.start(b, &[byte; BLOCK])), 0),
-            Step::StartShort(b) => (code(disk.start(b, &[1; 255])), 0),
-            Step::Finish(b) => ended(disk.finish(b)),
-            _ => (999, 0),
+            Step::Start(b, byte) => Answer::Started(disk.start(b, &[byte; BLOCK])),
+            Step::StartShort(b) => Answer::Started(disk.start(b, &[1; 255])),
+            Step::Finish(b) => Answer::Finished(disk.finish(b)),
+            Step::Read(b) => Answer::Copied(disk.read(b, &mut block), block[0]),
+            Step::ReadShort(b) => Answer::Copied(disk.read(b, &mut block[..255]), block[0]),
+            Step::Image(b) => Answer::Copied(disk.image(b, &mut block), block[0]),
+            Step::Blocks => Answer::Number(disk.blocks()),
+            Step::Still => Answer::Truth(disk.still()),
+            Step::Flying(b) => Answer::Truth(disk.flying(b)),
+            Step::IsOpen(b) => Answer::Truth(disk.is_open(b)),
         }
     }
 
-    fn copy<D: InFlight>(disk: &mut D, step: Step) -> Answer
-        requires { D.Disk.sound disk.old }
-        ensures { D.Disk.sound disk.new }
-    {
-        let mut block = [7u8; BLOCK];
-        let r = match step {
-            Step::Read(b) => code(disk.read(b, &mut block)),
-            Step::ReadShort(b) => code(disk.read(b, &mut block[0..255])),
-            Step::Image(b) => code(disk.image(b, &mut block)),
-            _ => 999,
-        };
-        (r, block[0])
-    }
-
-    fn ask<D: Disk>(disk: &D, step: Step) -> u16
-        requires { D.Disk.sound disk.now }
-    {
-        match step {
-            Step::Blocks => disk.blocks(),
-            Step::Still => u16::from(disk.still()),
-            Step::Flying(b) => u16::from(disk.flying(b)),
-            Step::IsOpen(b) => u16::from(disk.is_open(b)),
-            _ => 999,
-        }
-    }
-
-    fn answer<D: InFlight>(disk: &mut D, step: Step) -> Answer
-        requires { D.Disk.sound disk.old }
-        ensures { D.Disk.sound disk.new }
-    {
-        match step {
-            Step::Start(_, _) | Step::StartShort(_) | Step::Finish(_) => write(disk, step),
-            Step::Read(_) | Step::ReadShort(_) | Step::Image(_) => copy(disk, step),
-            Step::Blocks | Step::Still | Step::Flying(_) | Step::IsOpen(_) => (ask(disk, step), 0),
-        }
-    }
-
-    // Fails the test where an answer is not the wanted one; a helper with a contract may not end the process.
+    // Fails the test where an answer is not the wanted one; a helper does not end the process.
     fn check_eq<T: PartialEq + Debug + Drop>(got: T, wanted: T) -> Result<(), Fail> {
         if got != wanted {
             return Err(Fail::new(format_args!("{got:?} is not {wanted:?}")));
@@ -112,12 +71,9 @@ mod tests {
     }
 
     // Takes each step and compares what it answers.
-    fn plays<D: InFlight>(disk: &mut D, table: &[(Step, Answer)]) -> Result<(), Fail>
-        requires { D.Disk.sound disk.old }
-        ensures { D.Disk.sound disk.new }
-    {
-        for row in table {
-            check_eq(answer(disk, row.0), row.1)?;
+    fn plays<D: InFlight>(disk: &mut D, table: &[(Step, Answer)]) -> Result<(), Fail> {
+        for (step, wanted) in table {
+            check_eq(call(disk, *step), *wanted)?;
         }
         Ok(())
     }
@@ -127,15 +83,18 @@ mod tests {
     fn blocks_of_a_row(rt: HostRuntime) {
         let mut row = [1u8; 600];
         let mut block = [7u8; BLOCK];
-        assert_eq!(rt; put_block(&mut row, 1, &[2; BLOCK]), true);
-        assert_eq!(rt; put_block(&mut row, 2, &[3; BLOCK]), false);
-        assert_eq!(rt; put_block(&mut row, 0, &[3; 255]), false);
-        assert_eq!(rt; get_block(&row, 2, &mut block), false);
+        assert_eq!(rt; put_block(&mut row, 1, &[2; BLOCK]), Ok(()));
+        assert_eq!(rt;
+            put_block(&mut row, 2, &[3; BLOCK]),
+            Err(Refusal::NoSuchBlock)
+        );
+        assert_eq!(rt; put_block(&mut row, 0, &[3; 255]), Err(Refusal::UnfitBytes));
+        assert_eq!(rt; get_block(&row, 2, &mut block), Err(Refusal::NoSuchBlock));
         assert_eq!(rt; block[0], 7);
-        assert_eq!(rt; get_block(&row, 1, &mut block), true);
+        assert_eq!(rt; get_block(&row, 1, &mut block), Ok(()));
         assert_eq!(rt; block[255], 2);
-        assert_eq!(rt; move_block(&mut row, 1, 2), false);
-        assert_eq!(rt; move_block(&mut row, 1, 0), true);
+        assert_eq!(rt; move_block(&mut row, 1, 2), Err(Refusal::NoSuchBlock));
+        assert_eq!(rt; move_block(&mut row, 1, 0), Ok(()));
         assert_eq!(rt; row[0], 2);
         assert_eq!(rt; row[599], 1);
     }
@@ -154,29 +113,50 @@ mod tests {
     }
 
     const ONE_PLACE: [(Step, Answer); 23] = [
-        (Step::Blocks, (2, 0)),
-        (Step::StartShort(2), (1, 0)),
-        (Step::Start(2, 1), (2, 0)),
-        (Step::Finish(2), (2, 0)),
-        (Step::Finish(0), (26, 0)),
-        (Step::Image(0), (26, 7)),
-        (Step::Image(2), (2, 7)),
-        (Step::Start(0, 1), (0, 0)),
-        (Step::Start(0, 2), (25, 0)),
-        (Step::Start(1, 2), (28, 0)),
-        (Step::Still, (0, 0)),
-        (Step::Flying(0), (1, 0)),
-        (Step::IsOpen(1), (0, 0)),
-        (Step::Image(0), (0, 1)),
-        (Step::Read(0), (0, 9)),
-        (Step::Finish(0), (0, 0)),
-        (Step::Still, (1, 0)),
-        (Step::Flying(0), (0, 0)),
-        (Step::IsOpen(1), (1, 0)),
-        (Step::IsOpen(2), (0, 0)),
-        (Step::Read(0), (0, 1)),
-        (Step::Read(2), (2, 7)),
-        (Step::ReadShort(0), (1, 7)),
+        (Step::Blocks, Answer::Number(2)),
+        (
+            Step::StartShort(2),
+            Answer::Started(Err(Refusal::UnfitBytes)),
+        ),
+        (
+            Step::Start(2, 1),
+            Answer::Started(Err(Refusal::NoSuchBlock)),
+        ),
+        (Step::Finish(2), Answer::Finished(Err(Refusal::NoSuchBlock))),
+        (
+            Step::Finish(0),
+            Answer::Finished(Err(Refusal::BlockNotInFlight)),
+        ),
+        (
+            Step::Image(0),
+            Answer::Copied(Err(Refusal::BlockNotInFlight), 7),
+        ),
+        (Step::Image(2), Answer::Copied(Err(Refusal::NoSuchBlock), 7)),
+        (Step::Start(0, 1), Answer::Started(Ok(()))),
+        (
+            Step::Start(0, 2),
+            Answer::Started(Err(Refusal::BlockInFlight)),
+        ),
+        (
+            Step::Start(1, 2),
+            Answer::Started(Err(Refusal::BlockNotOpen)),
+        ),
+        (Step::Still, Answer::Truth(false)),
+        (Step::Flying(0), Answer::Truth(true)),
+        (Step::IsOpen(1), Answer::Truth(false)),
+        (Step::Image(0), Answer::Copied(Ok(()), 1)),
+        (Step::Read(0), Answer::Copied(Ok(()), 9)),
+        (Step::Finish(0), Answer::Finished(Ok(Outcome::Written))),
+        (Step::Still, Answer::Truth(true)),
+        (Step::Flying(0), Answer::Truth(false)),
+        (Step::IsOpen(1), Answer::Truth(true)),
+        (Step::IsOpen(2), Answer::Truth(false)),
+        (Step::Read(0), Answer::Copied(Ok(()), 1)),
+        (Step::Read(2), Answer::Copied(Err(Refusal::NoSuchBlock), 7)),
+        (
+            Step::ReadShort(0),
+            Answer::Copied(Err(Refusal::UnfitBytes), 7),
+        ),
     ];
 
     #[test]
@@ -189,13 +169,16 @@ mod tests {
     }
 
     const NO_BLOCKS: [(Step, Answer); 7] = [
-        (Step::Blocks, (0, 0)),
-        (Step::Still, (1, 0)),
-        (Step::Flying(0), (0, 0)),
-        (Step::IsOpen(0), (0, 0)),
-        (Step::Start(0, 1), (2, 0)),
-        (Step::Finish(0), (2, 0)),
-        (Step::Read(0), (2, 7)),
+        (Step::Blocks, Answer::Number(0)),
+        (Step::Still, Answer::Truth(true)),
+        (Step::Flying(0), Answer::Truth(false)),
+        (Step::IsOpen(0), Answer::Truth(false)),
+        (
+            Step::Start(0, 1),
+            Answer::Started(Err(Refusal::NoSuchBlock)),
+        ),
+        (Step::Finish(0), Answer::Finished(Err(Refusal::NoSuchBlock))),
+        (Step::Read(0), Answer::Copied(Err(Refusal::NoSuchBlock), 7)),
     ];
 
     #[test]
@@ -208,18 +191,24 @@ mod tests {
 
     // The ninth write waits until one is finished, and takes the place that this one leaves.
     const FULL_AIR: [(Step, Answer); 12] = [
-        (Step::Start(0, 1), (0, 0)),
-        (Step::Start(1, 1), (0, 0)),
-        (Step::Start(2, 1), (0, 0)),
-        (Step::Start(3, 1), (0, 0)),
-        (Step::Start(4, 1), (0, 0)),
-        (Step::Start(5, 1), (0, 0)),
-        (Step::Start(6, 1), (0, 0)),
-        (Step::Start(7, 1), (0, 0)),
-        (Step::Start(8, 2), (28, 0)),
-        (Step::Finish(3), (0, 0)),
-        (Step::Start(8, 2), (0, 0)),
-        (Step::Start(3, 3), (28, 0)),
+        (Step::Start(0, 1), Answer::Started(Ok(()))),
+        (Step::Start(1, 1), Answer::Started(Ok(()))),
+        (Step::Start(2, 1), Answer::Started(Ok(()))),
+        (Step::Start(3, 1), Answer::Started(Ok(()))),
+        (Step::Start(4, 1), Answer::Started(Ok(()))),
+        (Step::Start(5, 1), Answer::Started(Ok(()))),
+        (Step::Start(6, 1), Answer::Started(Ok(()))),
+        (Step::Start(7, 1), Answer::Started(Ok(()))),
+        (
+            Step::Start(8, 2),
+            Answer::Started(Err(Refusal::BlockNotOpen)),
+        ),
+        (Step::Finish(3), Answer::Finished(Ok(Outcome::Written))),
+        (Step::Start(8, 2), Answer::Started(Ok(()))),
+        (
+            Step::Start(3, 3),
+            Answer::Started(Err(Refusal::BlockNotOpen)),
+        ),
     ];
 
     #[test]
@@ -235,14 +224,11 @@ mod tests {
     fn plain_disk_over_rows(rt: HostRuntime) -> Result<(), Fail> {
         let mut small = [9u8; 768];
         let mut large = [0u8; 4352];
-        assert_eq!(rt; plain_disk::Plain::check(&small, 2, 1), Ok(()));
-        assert_eq!(rt;
-            plain_disk::Plain::check(&small, 3, 1),
-            Err(Refusal::UnfitBytes)
-        );
-        plays(&mut plain_disk::Plain::new(&mut small, 2, 1), &ONE_PLACE)?;
-        plays(&mut plain_disk::Plain::new(&mut small, 3, 1), &NO_BLOCKS)?;
-        plays(&mut plain_disk::Plain::new(&mut large, 9, 8), &FULL_AIR)?;
+        assert_eq!(rt; Plain::check(&small, 2, 1), Ok(()));
+        assert_eq!(rt; Plain::check(&small, 3, 1), Err(Refusal::UnfitBytes));
+        plays(&mut Plain::new(&mut small, 2, 1), &ONE_PLACE)?;
+        plays(&mut Plain::new(&mut small, 3, 1), &NO_BLOCKS)?;
+        plays(&mut Plain::new(&mut large, 9, 8), &FULL_AIR)?;
         assert_eq!(rt; small[255], 1);
         assert_eq!(rt; small[256], 9);
         assert_eq!(rt; large[2304 + 256 * 3], 2);
@@ -273,21 +259,33 @@ mod tests {
 
     // Two writes succeed, the third fails, and then no start is accepted.
     const TWO_PAGES: [(Step, Answer); 15] = [
-        (Step::Blocks, (1, 0)),
-        (Step::Start(0, 1), (0, 0)),
-        (Step::Image(0), (0, 1)),
-        (Step::Read(0), (0, 9)),
-        (Step::Finish(0), (0, 0)),
-        (Step::Read(0), (0, 1)),
-        (Step::Start(0, 2), (0, 0)),
-        (Step::Finish(0), (0, 0)),
-        (Step::Start(0, 3), (0, 0)),
-        (Step::Start(0, 3), (25, 0)),
-        (Step::Finish(0), (0, 1)),
-        (Step::Finish(0), (26, 0)),
-        (Step::Start(0, 4), (28, 0)),
-        (Step::Still, (1, 0)),
-        (Step::Read(0), (0, 2)),
+        (Step::Blocks, Answer::Number(1)),
+        (Step::Start(0, 1), Answer::Started(Ok(()))),
+        (Step::Image(0), Answer::Copied(Ok(()), 1)),
+        (Step::Read(0), Answer::Copied(Ok(()), 9)),
+        (Step::Finish(0), Answer::Finished(Ok(Outcome::Written))),
+        (Step::Read(0), Answer::Copied(Ok(()), 1)),
+        (Step::Start(0, 2), Answer::Started(Ok(()))),
+        (Step::Finish(0), Answer::Finished(Ok(Outcome::Written))),
+        (Step::Start(0, 3), Answer::Started(Ok(()))),
+        (
+            Step::Start(0, 3),
+            Answer::Started(Err(Refusal::BlockInFlight)),
+        ),
+        (
+            Step::Finish(0),
+            Answer::Finished(Ok(Outcome::Failed { layer: 1, block: 0 })),
+        ),
+        (
+            Step::Finish(0),
+            Answer::Finished(Err(Refusal::BlockNotInFlight)),
+        ),
+        (
+            Step::Start(0, 4),
+            Answer::Started(Err(Refusal::BlockNotOpen)),
+        ),
+        (Step::Still, Answer::Truth(true)),
+        (Step::Read(0), Answer::Copied(Ok(()), 2)),
     ];
 
     #[test]
@@ -302,14 +300,17 @@ mod tests {
 
     // Of the spare pages 2 to 5 with lives 2, 3, 3, 1, page 3 is taken, then 4, then 2.
     const EQUAL_LIVES: [(Step, Answer); 8] = [
-        (Step::Start(0, 1), (0, 0)),
-        (Step::Start(1, 2), (0, 0)),
-        (Step::Finish(0), (0, 0)),
-        (Step::Start(0, 3), (0, 0)),
-        (Step::Read(0), (0, 1)),
-        (Step::Read(1), (0, 9)),
-        (Step::Flying(1), (1, 0)),
-        (Step::Start(2, 1), (2, 0)),
+        (Step::Start(0, 1), Answer::Started(Ok(()))),
+        (Step::Start(1, 2), Answer::Started(Ok(()))),
+        (Step::Finish(0), Answer::Finished(Ok(Outcome::Written))),
+        (Step::Start(0, 3), Answer::Started(Ok(()))),
+        (Step::Read(0), Answer::Copied(Ok(()), 1)),
+        (Step::Read(1), Answer::Copied(Ok(()), 9)),
+        (Step::Flying(1), Answer::Truth(true)),
+        (
+            Step::Start(2, 1),
+            Answer::Started(Err(Refusal::NoSuchBlock)),
+        ),
     ];
 
     #[test]
@@ -328,18 +329,30 @@ mod tests {
 
     // Pages without life: each write fails and retires its page, until no spare page is left.
     const NO_LIFE: [(Step, Answer); 12] = [
-        (Step::Start(1, 1), (0, 0)),
-        (Step::Finish(1), (1, 1)),
-        (Step::Start(0, 1), (0, 0)),
-        (Step::Start(1, 1), (0, 0)),
-        (Step::Finish(1), (1, 1)),
-        (Step::IsOpen(1), (0, 0)),
-        (Step::Finish(0), (0, 1)),
-        (Step::IsOpen(0), (0, 0)),
-        (Step::Start(1, 1), (28, 0)),
-        (Step::Still, (1, 0)),
-        (Step::Read(0), (0, 9)),
-        (Step::Read(1), (0, 9)),
+        (Step::Start(1, 1), Answer::Started(Ok(()))),
+        (
+            Step::Finish(1),
+            Answer::Finished(Ok(Outcome::Failed { layer: 1, block: 1 })),
+        ),
+        (Step::Start(0, 1), Answer::Started(Ok(()))),
+        (Step::Start(1, 1), Answer::Started(Ok(()))),
+        (
+            Step::Finish(1),
+            Answer::Finished(Ok(Outcome::Failed { layer: 1, block: 1 })),
+        ),
+        (Step::IsOpen(1), Answer::Truth(false)),
+        (
+            Step::Finish(0),
+            Answer::Finished(Ok(Outcome::Failed { layer: 1, block: 0 })),
+        ),
+        (Step::IsOpen(0), Answer::Truth(false)),
+        (
+            Step::Start(1, 1),
+            Answer::Started(Err(Refusal::BlockNotOpen)),
+        ),
+        (Step::Still, Answer::Truth(true)),
+        (Step::Read(0), Answer::Copied(Ok(()), 9)),
+        (Step::Read(1), Answer::Copied(Ok(()), 9)),
     ];
 
     #[test]
@@ -354,22 +367,34 @@ mod tests {
 
     // Blocks 0 and 1 are the plain disk's, block 2 is the page disk's.
     const JOINED: [(Step, Answer); 16] = [
-        (Step::Blocks, (3, 0)),
-        (Step::Start(1, 1), (0, 0)),
-        (Step::IsOpen(0), (0, 0)),
-        (Step::IsOpen(2), (1, 0)),
-        (Step::Start(2, 2), (0, 0)),
-        (Step::Image(1), (0, 1)),
-        (Step::Image(2), (0, 2)),
-        (Step::Finish(2), (0, 2)),
-        (Step::Still, (0, 0)),
-        (Step::Finish(1), (0, 0)),
-        (Step::Still, (1, 0)),
-        (Step::Read(1), (0, 1)),
-        (Step::Read(2), (0, 9)),
-        (Step::Start(3, 1), (2, 0)),
-        (Step::StartShort(3), (1, 0)),
-        (Step::ReadShort(3), (1, 7)),
+        (Step::Blocks, Answer::Number(3)),
+        (Step::Start(1, 1), Answer::Started(Ok(()))),
+        (Step::IsOpen(0), Answer::Truth(false)),
+        (Step::IsOpen(2), Answer::Truth(true)),
+        (Step::Start(2, 2), Answer::Started(Ok(()))),
+        (Step::Image(1), Answer::Copied(Ok(()), 1)),
+        (Step::Image(2), Answer::Copied(Ok(()), 2)),
+        (
+            Step::Finish(2),
+            Answer::Finished(Ok(Outcome::Failed { layer: 2, block: 0 })),
+        ),
+        (Step::Still, Answer::Truth(false)),
+        (Step::Finish(1), Answer::Finished(Ok(Outcome::Written))),
+        (Step::Still, Answer::Truth(true)),
+        (Step::Read(1), Answer::Copied(Ok(()), 1)),
+        (Step::Read(2), Answer::Copied(Ok(()), 9)),
+        (
+            Step::Start(3, 1),
+            Answer::Started(Err(Refusal::NoSuchBlock)),
+        ),
+        (
+            Step::StartShort(3),
+            Answer::Started(Err(Refusal::UnfitBytes)),
+        ),
+        (
+            Step::ReadShort(3),
+            Answer::Copied(Err(Refusal::UnfitBytes), 7),
+        ),
     ];
 
     #[test]
@@ -384,12 +409,15 @@ mod tests {
     }
 
     const WIDE: [(Step, Answer); 6] = [
-        (Step::Blocks, (65535, 0)),
-        (Step::IsOpen(65533), (1, 0)),
-        (Step::Start(65534, 1), (0, 0)),
-        (Step::Flying(65534), (1, 0)),
-        (Step::Finish(65534), (1, 2)),
-        (Step::IsOpen(65535), (0, 0)),
+        (Step::Blocks, Answer::Number(65535)),
+        (Step::IsOpen(65533), Answer::Truth(true)),
+        (Step::Start(65534, 1), Answer::Started(Ok(()))),
+        (Step::Flying(65534), Answer::Truth(true)),
+        (
+            Step::Finish(65534),
+            Answer::Finished(Ok(Outcome::Failed { layer: 2, block: 1 })),
+        ),
+        (Step::IsOpen(65535), Answer::Truth(false)),
     ];
 
     #[test]
@@ -406,14 +434,32 @@ mod tests {
 
     // The layer of a failure goes up by 1 for each join, and stays at 255.
     const LAYERS: [(Step, Answer); 8] = [
-        (Step::Start(0, 1), (0, 0)),
-        (Step::Finish(0), (0, 255)),
-        (Step::Start(1, 1), (0, 0)),
-        (Step::Finish(1), (0, 255)),
-        (Step::Start(2, 1), (0, 0)),
-        (Step::Finish(2), (0, 8)),
-        (Step::Start(3, 1), (0, 0)),
-        (Step::Finish(3), (1, 8)),
+        (Step::Start(0, 1), Answer::Started(Ok(()))),
+        (
+            Step::Finish(0),
+            Answer::Finished(Ok(Outcome::Failed {
+                layer: 255,
+                block: 0,
+            })),
+        ),
+        (Step::Start(1, 1), Answer::Started(Ok(()))),
+        (
+            Step::Finish(1),
+            Answer::Finished(Ok(Outcome::Failed {
+                layer: 255,
+                block: 0,
+            })),
+        ),
+        (Step::Start(2, 1), Answer::Started(Ok(()))),
+        (
+            Step::Finish(2),
+            Answer::Finished(Ok(Outcome::Failed { layer: 8, block: 0 })),
+        ),
+        (Step::Start(3, 1), Answer::Started(Ok(()))),
+        (
+            Step::Finish(3),
+            Answer::Finished(Ok(Outcome::Failed { layer: 8, block: 1 })),
+        ),
     ];
 
     #[test]
@@ -426,13 +472,11 @@ mod tests {
     }
 
     // One state with nothing in flight, then two, then four.
-    fn doubles<D: InFlight>(rt: &HostRuntime, disk: &mut D) -> Result<(), Fail>
-        requires { D.Disk.sound disk.old }
-    {
+    fn doubles<D: InFlight>(rt: &HostRuntime, disk: &mut D) -> Result<(), Fail> {
         check_eq(states(rt.alloc(), disk)?.len(), 1)?;
-        check_eq(answer(disk, Step::Start(1, 5)), (0, 0))?;
+        check_eq(call(disk, Step::Start(1, 5)), Answer::Started(Ok(())))?;
         check_eq(states(rt.alloc(), disk)?.len(), 2)?;
-        check_eq(answer(disk, Step::Start(0, 6)), (0, 0))?;
+        check_eq(call(disk, Step::Start(0, 6)), Answer::Started(Ok(())))?;
         check_eq(states(rt.alloc(), disk)?.len(), 4)
     }
 

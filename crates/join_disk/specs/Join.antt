@@ -1,10 +1,12 @@
 -- Two disks as one: the blocks of the left side come first, then those of the right side.
-use Rattle.std.specs.Prelude.{◌≡◌, ℕ, ◌+◌, ◌-◌, ◌<◌, ◌≤◌, min, false, cond, ◌||◌, [], None, nat_lt}
+use Rattle.std.specs.Prelude.{◌≡◌, ℕ, ◌+◌, ◌-◌, ◌<◌, ◌≤◌, min, false, cond, ◌||◌, [], None, Ok, Err, Result, nat_lt}
+use Rattle.refusal.specs.declared.Refusal.{Refusal}
+use Rattle.refusal.specs.declared.Refusal.TheVariants.{NoSuchBlock}
 use Rattle.disk.specs.Meaning.{Meaning}
 use Rattle.disk.specs.declared.Outcome.{Outcome}
 use Rattle.disk.specs.declared.Outcome.TheVariants.{Written, Failed}
 use Rattle.join_disk.specs.declared.join.Side.{Side}
-use Rattle.join_disk.specs.declared.join.Side.TheVariants.{Left, Right, Nowhere}
+use Rattle.join_disk.specs.declared.join.Side.TheVariants.{Left, Right}
 
 -- block a of m is block b of the side
 pub record BlockOf (side : Meaning) (b : ℕ) (m : Meaning) (a : ℕ) : Type 0 where
@@ -39,11 +41,11 @@ joined l r = record {
   spent = l.spent || r.spent;
 }
 
--- where block b lies over sides of n and m, as numbered there
-abbrev pub Lies : ℕ → ℕ → ℕ → Side → Type 0
-Lies n m b (Left a) = (b < width n m) × (b < n) × (a ≡ b)
-Lies n m b (Right a) = (b < width n m) × (n ≤ b) × (a ≡ b - n)
-Lies n m b Nowhere = width n m ≤ b
+-- where block b lies over sides of n and m, as numbered there; past the last block it is refused
+abbrev pub Lies : ℕ → ℕ → ℕ → Result Side Refusal → Type 0
+Lies n m b (Ok (Left a)) = (b < width n m) × (b < n) × (a ≡ b)
+Lies n m b (Ok (Right a)) = (b < width n m) × (n ≤ b) × (a ≡ b - n)
+Lies n m b (Err e) = (e ≡ NoSuchBlock) × (width n m ≤ b)
 
 -- a call at block b is a call on its side, as numbered there, and the other side is as it was; n is the left side's number of blocks
 pub record OnSide {L R : Type 0} (n b : ℕ) (call_left : L → ℕ → L → Type 0) (call_right : R → ℕ → R → Type 0) (l : L) (r : R) (new_l : L) (new_r : R) : Type 0 where

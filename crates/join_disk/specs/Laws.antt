@@ -1,26 +1,25 @@
 -- Why a join has the law of its sides, and the laws of every disk where its sides have them.
 use Rattle.std.specs.Prelude.{◌≡◌, ℕ, ◌+◌, ◌-◌, ◌<◌, ◌≤◌, true, false, [], length, is_some, Some, None, refl}
 use Rattle.std.proofs.Common.{sym, ap, ◌∙◌, subst, ⊎_elim, arith}
-use Rattle.std.proofs.lemmas.Bool.{both_ways, cases_lt, cond-true, cond-false, lt-ltb, le-ltb, or_parts}
+use Rattle.std.proofs.lemmas.Bool.{cases_lt, cond-false, le-ltb, or_parts}
+use Rattle.std.proofs.lemmas.Bool.Decides.{nat_tests}
 use Rattle.disk.specs.Meaning.{Meaning, Lawful, Still, flies}
 use Rattle.join_disk.specs.Join.{width, at_side, joined, BlockOf, Sides}
 
 -- a join has all blocks of its sides where these are few enough
 width_few : (n m : ℕ) → n + m < 65536 → width n m ≡ n + m
-width_few n m few = cond-true _ _ _ (lt-ltb (n + m) 65536 few)
+width_few n m few = grind (arith, nat_tests)
 
 module _ {X : Type 0} (none : X) (n m : ℕ) (f g : ℕ → X) where
   -- at a block of the left side, at one of the right side, past both
   at_left : n + m < 65536 → (b : ℕ) → b < n → at_side none n m f g b ≡ f b
-  at_left few b q = cond-true _ _ _ (lt-ltb b (width n m) (omega (arith, width_few n m few))) ∙ cond-true _ _ _ (lt-ltb b n q)
+  at_left few b q = grind (arith, nat_tests)
 
   at_right : n + m < 65536 → (b : ℕ) → b < m → at_side none n m f g (n + b) ≡ g b
-  at_right few b q =
-      let e : (n + b) - n ≡ b = omega arith in
-      cond-true _ _ _ (lt-ltb (n + b) (width n m) (omega (arith, width_few n m few))) ∙ cond-false _ _ _ (le-ltb (n + b) n (omega arith)) ∙ ap g e
+  at_right few b q = grind (arith, nat_tests)
 
   at_none : (b : ℕ) → width n m ≤ b → at_side none n m f g b ≡ none
-  at_none b q = cond-false _ _ _ (le-ltb b (width n m) q)
+  at_none b q = grind (arith, nat_tests)
 
 -- what is computed from the sides has the law of a join
 pub sides-joined : (l r : Meaning) → Sides l r (joined l r)
@@ -47,7 +46,7 @@ sides-joined l r =
 module _ (l r m : Meaning) (s : Sides l r m) where
   -- a join that has a block has all blocks of its sides
   few-by : (b : ℕ) → b < m.blocks → l.blocks + r.blocks < 65536
-  few-by b h = ⊎_elim (λ few. few) (λ many. absurd (omega (arith, s.overfull many))) (cases_lt (l.blocks + r.blocks) 65536)
+  few-by b h = grind arith
 
   -- what holds of the blocks of each side holds of those of the join
   pub on_both : (P : ℕ → Type 0) → ((b : ℕ) → b < l.blocks → BlockOf l b m b → P b) → ((b : ℕ) → b < r.blocks → BlockOf r b m (l.blocks + b) → P (l.blocks + b)) → (b : ℕ) → b < m.blocks → P b
@@ -72,15 +71,15 @@ module _ (l r m : Meaning) (s : Sides l r m) where
 
   -- what is in flight, and what is open, is below the number of blocks
   flying_below : (b : ℕ) → flies m b ≡ true → b < m.blocks
-  flying_below b e = ⊎_elim (λ q. q) (λ q. absurd (both_ways _ (ap is_some (s.beyond b q).0) e)) (cases_lt b m.blocks)
+  flying_below b e = let beyond = s.beyond b in grind arith
 
   open_below : (b : ℕ) → m.opens b ≡ true → b < m.blocks
-  open_below b e = ⊎_elim (λ q. q) (λ q. absurd (both_ways _ (s.beyond b q).1 e)) (cases_lt b m.blocks)
+  open_below b e = let beyond = s.beyond b in grind arith
 
   -- each law holds of a block of the join as it does on its side
   lawful-sides : Lawful l → Lawful r → Lawful m
   lawful-sides left right = record {
-    few_blocks = ⊎_elim (λ few. omega (arith, s.fits few)) (λ many. omega (arith, s.overfull many)) (cases_lt (l.blocks + r.blocks) 65536);
+    few_blocks = grind arith;
     whole_block = on_both (λ b. length (m.medium b) ≡ 256) (λ b q o. ap length o.medium ∙ left.whole_block b q) (λ b q o. ap length o.medium ∙ right.whole_block b q);
     whole_image = λ b image e. on_both (λ a. m.air a ≡ Some image → length image ≡ 256) (λ a q o f. left.whole_image a image (sym o.air ∙ f)) (λ a q o f. right.whole_image a image (sym o.air ∙ f)) b (flying_below b (ap is_some e)) e;
     flying_below = flying_below;

@@ -3,14 +3,13 @@ ghost use Rattle.disk.specs.Meaning.{Still};
 ghost use Rattle.join_disk.specs.Join.{joined, Sides, Lies, OnSide, raise, Raised};
 ghost use Rattle.join_disk.specs.Laws.{lawful-joined};
 
-use disk::{BLOCK, Disk, InFlight, Outcome};
+use disk::{Disk, InFlight, Outcome, check_block, check_bytes};
 use refusal::Refusal;
 
 // Where a block of a join lies, as numbered there.
 enum Side {
     Left(u16),
     Right(u16),
-    Nowhere,
 }
 
 // A side's outcome as the join answers it: a failure lies one layer further down.
@@ -43,25 +42,21 @@ impl<L: Disk, R: Disk> Join<L, R> {
         Join { left, right }
     }
 
-    // Where block b lies.
-    fn side_of(&self, b: u16) -> Side
-        requires { L.Disk.sound self.now.left × R.Disk.sound self.now.right }
+    // Where block b lies; past the last block it is refused.
+    fn side_of(&self, b: u16) -> Result<Side, Refusal>
         ensures { Lies (L.Disk.meaning self.now.left).blocks (R.Disk.meaning self.now.right).blocks b result }
     {
-        if b >= self.blocks() {
-            return Side::Nowhere;
-        }
+        check_block(b, self.blocks())?;
         let n = self.left.blocks();
         if b < n {
-            Side::Left(b)
+            Ok(Side::Left(b))
         } else {
-            Side::Right(b - n)
+            Ok(Side::Right(b - n))
         }
     }
 
     // Whether nothing is in flight on either side.
     fn sides_still(&self) -> bool
-        requires { L.Disk.sound self.now.left × R.Disk.sound self.now.right }
         ensures { Decides result (Still (L.Disk.meaning self.now.left) × Still (R.Disk.meaning self.now.right)) }
     {
         self.left.still() && self.right.still()
@@ -72,9 +67,7 @@ impl<L: Disk, R: Disk> Join<L, R> {
 impl<L: Disk, R: Disk> Disk for Join<L, R> {
     ghost meaning = { λ x. joined (L.Disk.meaning x.left) (R.Disk.meaning x.right) };
 
-    ghost sound = { λ x. L.Disk.sound x.left × R.Disk.sound x.right };
-
-    ghost lawful = { λ x s. lawful-joined (L.Disk.meaning x.left) (R.Disk.meaning x.right) (L.Disk.lawful x.left s.0) (R.Disk.lawful x.right s.1) };
+    ghost lawful = { λ x. lawful-joined (L.Disk.meaning x.left) (R.Disk.meaning x.right) (L.Disk.lawful x.left) (R.Disk.lawful x.right) };
 
     ghost reads = { λ x b y. OnSide (L.Disk.meaning x.left).blocks b L.Disk.reads R.Disk.reads x.left x.right y.left y.right };
 
@@ -93,47 +86,40 @@ impl<L: Disk, R: Disk> Disk for Join<L, R> {
 
     fn flying(&self, b: u16) -> bool {
         match self.side_of(b) {
-            Side::Left(a) => self.left.flying(a),
-            Side::Right(a) => self.right.flying(a),
-            Side::Nowhere => false,
+            Ok(Side::Left(a)) => self.left.flying(a),
+            Ok(Side::Right(a)) => self.right.flying(a),
+            Err(_) => false,
         }
     }
 
     fn is_open(&self, b: u16) -> bool {
         match self.side_of(b) {
-            Side::Left(a) => self.left.is_open(a),
-            Side::Right(a) => self.right.is_open(a),
-            Side::Nowhere => false,
+            Ok(Side::Left(a)) => self.left.is_open(a),
+            Ok(Side::Right(a)) => self.right.is_open(a),
+            Err(_) => false,
         }
     }
 
     fn read(&mut self, b: u16, into: &mut [u8]) -> Result<(), Refusal> {
-        if into.len() != BLOCK {
-            return Err(Refusal::UnfitBytes);
-        }
-        match self.side_of(b) {
+        check_bytes(into)?;
+        match self.side_of(b)? {
             Side::Left(a) => self.left.read(a, into),
             Side::Right(a) => self.right.read(a, into),
-            Side::Nowhere => Err(Refusal::NoSuchBlock),
         }
     }
 
     fn start(&mut self, b: u16, image: &[u8]) -> Result<(), Refusal> {
-        if image.len() != BLOCK {
-            return Err(Refusal::UnfitBytes);
-        }
-        match self.side_of(b) {
+        check_bytes(image)?;
+        match self.side_of(b)? {
             Side::Left(a) => self.left.start(a, image),
             Side::Right(a) => self.right.start(a, image),
-            Side::Nowhere => Err(Refusal::NoSuchBlock),
         }
     }
 
     fn finish(&mut self, b: u16) -> Result<Outcome, Refusal> {
-        match self.side_of(b) {
+        match self.side_of(b)? {
             Side::Left(a) => Ok(raised(self.left.finish(a)?)),
             Side::Right(a) => Ok(raised(self.right.finish(a)?)),
-            Side::Nowhere => Err(Refusal::NoSuchBlock),
         }
     }
 }
@@ -141,13 +127,10 @@ impl<L: Disk, R: Disk> Disk for Join<L, R> {
 // The images in flight are those of the sides.
 impl<L: InFlight, R: InFlight> InFlight for Join<L, R> {
     fn image(&self, b: u16, into: &mut [u8]) -> Result<(), Refusal> {
-        if into.len() != BLOCK {
-            return Err(Refusal::UnfitBytes);
-        }
-        match self.side_of(b) {
+        check_bytes(into)?;
+        match self.side_of(b)? {
             Side::Left(a) => self.left.image(a, into),
             Side::Right(a) => self.right.image(a, into),
-            Side::Nowhere => Err(Refusal::NoSuchBlock),
         }
     }
 }

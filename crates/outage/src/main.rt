@@ -1,18 +1,19 @@
 // Starts and finishes writes on a small plain disk, and shows what a loss of supply can leave in between.
 #![tactic(auto)]
 
-use disk::{BLOCK, Disk, InFlight, Outcome};
-use disks::Plain;
-use power_loss::{State, Unlisted, states};
+use disk::{BLOCK, InFlight};
+use plain_disk::Plain;
+use power_loss::{State, states};
 use std::io;
 
 const BLOCKS: u16 = 4;
 
 const PLACES: u8 = 2;
 
-const BYTES: usize = 1536;
+const BYTES: usize = BLOCK * (BLOCKS as usize + PLACES as usize);
 
 // A step of a scene: start a block with an image of one byte, finish a block, or list what a loss can leave.
+// No closures: a scene is data, which one table holds and any disk may play.
 #[derive(Clone, Copy)]
 enum Step {
     Start(u16, u8),
@@ -34,33 +35,6 @@ const STEPS: [Step; 11] = [
     Step::List,
 ];
 
-// Starts a write of a block full of one byte, and prints the answer.
-fn start<D: Disk>(rt: &HostRuntime, disk: &mut D, b: u16, byte: u8) -> io::Result<()>
-    requires { D.Disk.sound disk.old }
-    ensures { D.Disk.sound disk.new }
-{
-    match disk.start(b, &[byte; BLOCK]) {
-        Ok(()) => println!(rt; "start {b} with {byte:02x}: accepted")?,
-        Err(why) => println!(rt; "start {b} with {byte:02x}: {why}")?,
-    }
-    Ok(())
-}
-
-// Finishes the write of a block, and prints the answer.
-fn finish<D: Disk>(rt: &HostRuntime, disk: &mut D, b: u16) -> io::Result<()>
-    requires { D.Disk.sound disk.old }
-    ensures { D.Disk.sound disk.new }
-{
-    match disk.finish(b) {
-        Ok(Outcome::Written) => println!(rt; "finish {b}: written")?,
-        Ok(Outcome::Failed { layer, block }) => {
-            println!(rt; "finish {b}: failed in layer {layer} at block {block}")?
-        }
-        Err(why) => println!(rt; "finish {b}: {why}")?,
-    }
-    Ok(())
-}
-
 // Prints the numbers of the blocks that got written, or "-".
 fn show_written(rt: &HostRuntime, written: &[u16]) -> io::Result<()> {
     if written.is_empty() {
@@ -74,8 +48,7 @@ fn show_written(rt: &HostRuntime, written: &[u16]) -> io::Result<()> {
 
 // Prints the first bytes of each block.
 fn show_blocks(rt: &HostRuntime, blocks: &[[u8; BLOCK]]) -> io::Result<()> {
-    for block in blocks {
-        let [a, b, c, d, ..] = block;
+    for [a, b, c, d, ..] in blocks {
         print!(rt; " {a:02x}{b:02x}{c:02x}{d:02x}")?;
     }
     Ok(())
@@ -90,51 +63,63 @@ fn show(rt: &HostRuntime, state: &State) -> io::Result<()> {
     println!(rt; "")
 }
 
-// Prints every state that a loss of supply can leave now.
-fn list<D: InFlight>(rt: &HostRuntime, disk: &mut D) -> io::Result<()>
-    requires { D.Disk.sound disk.old }
-    ensures { D.Disk.sound disk.new }
-{
-    match states(rt.alloc(), disk) {
-        Ok(all) => {
-            println!(rt; "a loss of supply now leaves one of:")?;
-            for state in all.iter() {
-                show(rt, state)?;
-            }
+// A disk on which steps are taken and their answers printed.
+#[derive(Drop)]
+struct Scene<'a, D: InFlight + Drop> {
+    rt: &'a HostRuntime,
+    disk: D,
+}
+
+impl<D: InFlight + Drop> Scene<'_, D> {
+    // Starts a write of a block full of one byte, and prints the answer.
+    fn start(&mut self, b: u16, byte: u8) -> io::Result<()> {
+        match self.disk.start(b, &[byte; BLOCK]) {
+            Ok(()) => println!(self.rt; "start {b} with {byte:02x}: accepted"),
+            Err(why) => println!(self.rt; "start {b} with {byte:02x}: {why}"),
         }
-        Err(Unlisted::Memory) => println!(rt; "no memory to list the states")?,
-        Err(Unlisted::TooManyInFlight) => println!(rt;
-            "too many blocks in flight to list the states"
-        )?,
     }
-    Ok(())
-}
 
-// Takes one step of a scene.
-fn take<D: InFlight>(rt: &HostRuntime, disk: &mut D, step: Step) -> io::Result<()>
-    requires { D.Disk.sound disk.old }
-    ensures { D.Disk.sound disk.new }
-{
-    match step {
-        Step::Start(b, byte) => start(rt, disk, b, byte),
-        Step::Finish(b) => finish(rt, disk, b),
-        Step::List => list(rt, disk),
+    // Finishes the write of a block, and prints the answer.
+    fn finish(&mut self, b: u16) -> io::Result<()> {
+        match self.disk.finish(b) {
+            Ok(outcome) => println!(self.rt; "finish {b}: {outcome}"),
+            Err(why) => println!(self.rt; "finish {b}: {why}"),
+        }
     }
-}
 
-// Takes the steps of a scene, one after the other.
-fn play<D: InFlight>(rt: &HostRuntime, disk: &mut D, steps: &[Step]) -> io::Result<()>
-    requires { D.Disk.sound disk.old }
-    ensures { D.Disk.sound disk.new }
-{
-    for step in steps {
-        take(rt, disk, *step)?;
+    // Prints every state that a loss of supply can leave now.
+    fn list(&mut self) -> io::Result<()> {
+        match states(self.rt.alloc(), &mut self.disk) {
+            Ok(all) => {
+                println!(self.rt; "a loss of supply now leaves one of:")?;
+                for state in &all {
+                    show(self.rt, state)?;
+                }
+                Ok(())
+            }
+            Err(why) => println!(self.rt; "{why} to list the states"),
+        }
     }
-    Ok(())
+
+    // Takes one step.
+    fn take(&mut self, step: Step) -> io::Result<()> {
+        match step {
+            Step::Start(b, byte) => self.start(b, byte),
+            Step::Finish(b) => self.finish(b),
+            Step::List => self.list(),
+        }
+    }
 }
 
 fn main(rt: HostRuntime) -> io::Result<()> {
     let mut bytes = [0u8; BYTES];
     println!(rt; "{BLOCKS} blocks of {BLOCK} bytes, {PLACES} places for images in flight")?;
-    play(&rt, &mut Plain::new(&mut bytes, BLOCKS, PLACES), &STEPS)
+    let mut scene = Scene {
+        rt: &rt,
+        disk: Plain::new(&mut bytes, BLOCKS, PLACES),
+    };
+    for step in STEPS {
+        scene.take(step)?;
+    }
+    Ok(())
 }

@@ -7,7 +7,7 @@ use Rattle.std.proofs.lemmas.Bool.{both_ways, cases_lt, lt-ltb, le-ltb, eqb-true
 use Rattle.disk.specs.Meaning.{Still}
 use Rattle.rows.specs.Blocks.{Has, block}
 use Rattle.rows.specs.Marks.{AtMostOne}
-use Rattle.rows.proofs.Firsts.{first_by-none}
+use Rattle.rows.proofs.Firsts.{position-none}
 use Rattle.rows.proofs.Sets.{false-from, only}
 use Rattle.page_disk.specs.declared.pages.Page.{Page}
 use Rattle.page_disk.specs.declared.pages.Page.TheVariants.{Retired, Spare, Medium, Image}
@@ -43,7 +43,7 @@ count-fresh n p (suc m) =
     let here : (m < n → g (fresh_page n p m) ≡ 1) × (n ≤ m → g (fresh_page n p m) ≡ 0) = by_kind (λ x. (m < n → g x ≡ 1) × (n ≤ m → g x ≡ 0)) n p m (λ l. (λ _. refl, λ h. absurd (omega arith))) (λ l _. (λ h. absurd (omega arith), λ _. refl)) (λ l _. (λ h. absurd (omega arith), λ _. refl)) in
     (λ l. omega (arith, more, r.0 (omega arith), here.0 (omega arith)), λ l. ⊎_elim (λ h. omega (arith, more, r.0 (omega arith), here.0 h)) (λ h. omega (arith, more, r.1 h, here.1 h)) (cases_lt m n))
 
-module _ (bytes : List ℕ) (n : ℕ) (lives : List ℕ) (few : n ≤ 64) (most : length lives ≤ 80) (room : n ≤ length lives) (long : 256 * length lives ≤ length bytes) where
+module _ (bytes : List ℕ) (n : ℕ) (lives : List ℕ) (few : (n ≤ 64) × (length lives ≤ 80) × (n ≤ length lives)) (long : 256 * length lives ≤ length bytes) where
   abbrev begun : List Page
   begun = (fresh n lives).pages
 
@@ -62,7 +62,7 @@ module _ (bytes : List ℕ) (n : ℕ) (lives : List ℕ) (few : n ≤ 64) (most 
   no-image b j = each (λ x. same_page (Image b) x ≡ false) j (λ _. refl) (λ _ _. refl) (λ _ _. refl)
 
   grounded : (b : ℕ) → place (Image b) begun ≡ None
-  grounded b = first_by-none (same_page (Image b)) begun Retired (λ j _. no-image b j)
+  grounded b = position-none (same_page (Image b)) begun Retired (λ j _. no-image b j)
 
   -- block b is in page b
   own : (b j : ℕ) → same_page (Medium b) (get_or begun j Retired) ≡ true → (b ≡ j) × (j < n)
@@ -77,12 +77,12 @@ module _ (bytes : List ℕ) (n : ℕ) (lives : List ℕ) (few : n ≤ 64) (most 
   home : (b : ℕ) → is_some (place (Medium b) begun) ≡ ltb b n
   home b = ⊎_elim
       (λ l. ap is_some (found-home b l) ∙ sym (lt-ltb b n l))
-      (λ l. ap is_some (first_by-none (same_page (Medium b)) begun Retired (λ j _. false-from (same_page (Medium b) (get_or begun j Retired)) (λ e. omega (arith, (own b j e).0, (own b j e).1)))) ∙ sym (le-ltb b n l))
+      (λ l. ap is_some (position-none (same_page (Medium b)) begun Retired (λ j _. false-from (same_page (Medium b) (get_or begun j Retired)) (λ e. omega (arith, (own b j e).0, (own b j e).1)))) ∙ sym (le-ltb b n l))
       (cases_lt b n)
 
   pub sound-fresh : Sound bytes (fresh n lives)
   sound-fresh = record {
-    few = few;
+    few = few.0;
     eighty = size;
     lives = length-map-range_with_len (λ j. get_or lives j 0) 0 80;
     homes = home;

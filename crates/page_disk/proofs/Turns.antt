@@ -2,13 +2,14 @@
 use Rattle.std.proofs.Common.{◌≡◌, ℕ, ◌-◌, ◌<◌, true, false, ltb, leb, List, length, get_or, set, is_some, Some, None, count_by, Option, unwrap_or, sym, refl, ap, ◌∙◌, subst, subst₂, inl, inr, arith, length-set, get_or-set_other}
 use Rattle.std.specs.Option.{option_map}
 use Rattle.std.proofs.lemmas.Bool.{both_ways, eqb-true, eq-eqb, ne_eqb, cases_eq, lt-ltb, le-leb, leb-true}
+use Rattle.disk.specs.Meaning.{flies}
 use Rattle.disk.specs.Rules.{StartEffect, WriteEffect, FailEffect, FinishEffect}
 use Rattle.disk.specs.declared.Outcome.{Outcome}
 use Rattle.disk.specs.declared.Outcome.TheVariants.{Written, Failed}
 use Rattle.rows.specs.Blocks.{Has, Whole, block, put_block}
 use Rattle.rows.specs.Marks.{AtMostOne}
-use Rattle.rows.proofs.Firsts.{first_by-none, first_by-set, missing, some_at}
-use Rattle.rows.proofs.Options.{mapped-same, open-when}
+use Rattle.rows.proofs.Firsts.{position-none, position-set, missing, some_at}
+use Rattle.rows.proofs.Options.{none_from, mapped-same, open-when}
 use Rattle.rows.proofs.Puts.{length-put, block-put-same, block-put-other}
 use Rattle.rows.proofs.Sets.{false-from, at_set, one_set, none-set, first-set, count_set}
 use Rattle.page_disk.specs.declared.pages.Page.{Page}
@@ -17,11 +18,11 @@ use Rattle.page_disk.specs.declared.pages.Pages.{Pages}
 use Rattle.page_disk.specs.Pages.{same_page, live, holds, place, put_page, BestBelow}
 use Rattle.page_disk.specs.Wear.{PageStart, PageFinish, EndsIn, landed}
 use Rattle.page_disk.specs.Paged.{paged, Sound}
-use Rattle.page_disk.specs.Laws.{same-page, found-page, in_table, image-found, image-below, at_home}
+use Rattle.page_disk.specs.Laws.{same-page, found-page, in_table, flies-paged, image-found, image-below, at_home}
 
 -- what is looked for is found where it was if it is neither the page replaced nor the new one, or both
 stays : (w : Page) (ps : List Page) (j : ℕ) (x v : Page) → get_or ps j Retired ≡ x → same_page w x ≡ same_page w v → place w (set ps j v) ≡ place w ps
-stays w ps j x v e q = first_by-set (same_page w) ps Retired j v (ap (same_page w) e ∙ q)
+stays w ps j x v e q = position-set (same_page w) ps Retired j v (ap (same_page w) e ∙ q)
 
 -- two pages that are for different things are two
 pub apart : (ps : List Page) (i j : ℕ) (x y : Page) → get_or ps i Retired ≡ x → get_or ps j Retired ≡ y → same_page x x ≡ true → same_page x y ≡ false → i ≡ j → ⊥
@@ -180,11 +181,48 @@ module _ (bytes : List ℕ) (t : Pages) (s : Sound bytes t) (b j : ℕ) (carried
       spent = ap (λ (m : ℕ). leb m t.blocks) (omega (arith, count_set live t.pages o Spare Retired true true old (ap live home) refl, count_set live left j (Medium b) Retired true true taken-left (ap live still-there) refl));
     }
 
--- a start keeps the condition and has the effect that every disk's start has
-pub started : (bytes : List ℕ) (t : Pages) (b : ℕ) (image new : List ℕ) (u : Pages) → Sound bytes t → place (Image b) t.pages ≡ None → b < t.blocks → Whole image → PageStart bytes t b image new u → Sound new u × StartEffect (paged bytes t) b image (paged new u)
-started bytes t b image new u s idle below whole st =
-    subst₂ (λ (xs : List ℕ) (x : Pages). Sound xs x × StartEffect (paged bytes t) b image (paged xs x)) (sym st.bytes) (sym st.pages)
-    (start-sound bytes t s b st.at image st.spare idle below whole, start-effect bytes t s b st.at image st.spare idle below whole)
+-- a block that is not in flight has no page with its image
+grounded : (bytes : List ℕ) (t : Pages) (s : Sound bytes t) (b : ℕ) → flies (paged bytes t) b ≡ false → place (Image b) t.pages ≡ None
+grounded bytes t s b e = none_from _ (sym (flies-paged bytes t s b) ∙ e)
+
+-- the best spare page is there just while a spare page exists
+best-spare : (ps : List Page) (lives : List ℕ) (o : Option ℕ) → BestBelow ps lives (length ps) o → is_some (place Spare ps) ≡ is_some o
+best-spare ps lives None h = ap is_some (position-none (same_page Spare) ps Retired (λ j l. false-from (same_page Spare (get_or ps j Retired)) (λ e. h j l (same-page Spare (get_or ps j Retired) e))))
+best-spare ps lives (Some j) h = some_at (same_page Spare) ps Retired j h.0 (ap (same_page Spare) h.1)
+
+-- a block that is not in flight is open just while there is a best spare page
+open-while : (bytes : List ℕ) (t : Pages) (s : Sound bytes t) (b : ℕ) (o : Option ℕ) → flies (paged bytes t) b ≡ false → b < t.blocks → BestBelow t.pages t.lives (length t.pages) o → (paged bytes t).opens b ≡ is_some o
+open-while bytes t s b o idle below h =
+    open-when (ltb b t.blocks) (is_some (place Spare t.pages)) (place (Image b) t.pages) (lt-ltb b t.blocks below) (grounded bytes t s b idle) ∙ best-spare t.pages t.lives o h
+
+-- a block that is not in flight is not open where no page is spare
+pub shut : (bytes : List ℕ) (t : Pages) (s : Sound bytes t) (b : ℕ) → flies (paged bytes t) b ≡ false → b < t.blocks → BestBelow t.pages t.lives (length t.pages) None → (paged bytes t).opens b ≡ false
+shut bytes t s b = open-while bytes t s b None
+
+-- what is to be shown of a start: the condition after it, that the block was open, the effect that every disk's start has, and that of a page disk's
+pub record Started (bytes : List ℕ) (t : Pages) (b : ℕ) (image new : List ℕ) (u : Pages) : Type 0 where
+  pub keeps : Sound new u
+  pub opens : (paged bytes t).opens b ≡ true
+  pub effect : StartEffect (paged bytes t) b image (paged new u)
+  pub starts : PageStart bytes t b image new u
+
+pub started : (bytes : List ℕ) (t : Pages) (s : Sound bytes t) (b j : ℕ) (image new : List ℕ) (u : Pages) → flies (paged bytes t) b ≡ false → b < t.blocks → Whole image → BestBelow t.pages t.lives (length t.pages) (Some j)
+    → new ≡ put_block j image bytes → u ≡ put_page j (Image b) t → Started bytes t b image new u
+started bytes t s b j image new u idle below whole best written pages =
+    let none = grounded bytes t s b idle in
+    record {
+      keeps = subst₂ Sound (sym written) (sym pages) (start-sound bytes t s b j image best.1 none below whole);
+      opens = open-while bytes t s b (Some j) idle below best;
+      effect = subst₂ (λ (xs : List ℕ) (x : Pages). StartEffect (paged bytes t) b image (paged xs x)) (sym written) (sym pages) (start-effect bytes t s b j image best.1 none below whole);
+      starts = record {
+        at = j;
+        spare = best.1;
+        most = λ k e. (best.2 k (in_table t.pages k Spare e refl) e).0;
+        lowest = λ k l e. (best.2 k (in_table t.pages k Spare e refl) e).1 l;
+        bytes = written;
+        pages = pages;
+      };
+    }
 
 -- however a finish ends, it keeps the condition and has the effect that every disk's finish has
 ends : (bytes : List ℕ) (t : Pages) (b j o : ℕ) (how : Outcome) (u : Pages) → Sound bytes t → get_or t.pages j Retired ≡ Image b → get_or t.pages o Retired ≡ Medium b → EndsIn j o t b how u → Sound bytes u × FinishEffect (paged bytes t) b how (paged bytes u)
@@ -193,16 +231,21 @@ ends bytes t b j o Written u s carried home e =
 ends bytes t b j o (Failed layer block) u s carried home e =
     subst (λ (x : Pages). Sound bytes x × FinishEffect (paged bytes t) b (Failed layer block) (paged bytes x)) (sym e.3) (fail-sound bytes t s b j carried, (omega (arith, e.1), fail-effect bytes t s b j carried))
 
-pub finished : (bytes : List ℕ) (t : Pages) (b : ℕ) (how : Outcome) (new : List ℕ) (u : Pages) → Sound bytes t → PageFinish bytes t b how new u → Sound new u × FinishEffect (paged bytes t) b how (paged new u)
-finished bytes t b how new u s f =
-    subst (λ (xs : List ℕ). Sound xs u × FinishEffect (paged bytes t) b how (paged xs u)) (sym f.same) (ends bytes t b f.at f.home how u s f.image f.medium f.end)
+-- what is to be shown of a finish: the condition after it, that the block was in flight, the effect that every disk's finish has, and that of a page disk's
+pub record Finished (bytes : List ℕ) (t : Pages) (b : ℕ) (how : Outcome) (u : Pages) : Type 0 where
+  pub keeps : Sound bytes u
+  pub flying : flies (paged bytes t) b ≡ true
+  pub effect : FinishEffect (paged bytes t) b how (paged bytes u)
+  pub ends : PageFinish bytes t b how bytes u
 
--- a block that is not in flight is open just while a spare page exists
-pub open-while : (bytes : List ℕ) (t : Pages) (b : ℕ) → place (Image b) t.pages ≡ None → b < t.blocks → (paged bytes t).opens b ≡ is_some (place Spare t.pages)
-open-while bytes t b idle below =
-    open-when (ltb b t.blocks) (is_some (place Spare t.pages)) (place (Image b) t.pages) (lt-ltb b t.blocks below) idle
-
--- the best spare page is there just while a spare page exists
-pub best-spare : (ps : List Page) (lives : List ℕ) (o : Option ℕ) → BestBelow ps lives (length ps) o → is_some (place Spare ps) ≡ is_some o
-best-spare ps lives None h = ap is_some (first_by-none (same_page Spare) ps Retired (λ j l. false-from (same_page Spare (get_or ps j Retired)) (λ e. h j l (same-page Spare (get_or ps j Retired) e))))
-best-spare ps lives (Some j) h = some_at (same_page Spare) ps Retired j h.0 (ap (same_page Spare) h.1)
+pub finished : (bytes : List ℕ) (t : Pages) (s : Sound bytes t) (b j o : ℕ) (how : Outcome) (u : Pages) → place (Image b) t.pages ≡ Some j → place (Medium b) t.pages ≡ Some o → EndsIn j o t b how u → Finished bytes t b how u
+finished bytes t s b j o how u image medium end =
+    let carried = found-page (Image b) t.pages j image in
+    let home = found-page (Medium b) t.pages o medium in
+    let r = ends bytes t b j o how u s carried home end in
+    record {
+      keeps = r.0;
+      flying = flies-paged bytes t s b ∙ ap is_some image;
+      effect = r.1;
+      ends = record { at = j; image = carried; home = o; medium = home; end = end; same = refl };
+    }

@@ -1,5 +1,5 @@
 -- One block in two pages of life 1, write by write.
-use Rattle.std.proofs.Common.{◌≡◌, ℕ, zero, suc, ◌<◌, ◌≤◌, true, false, List, ◌∷◌, length, get_or, replicate, Ok, Err, Result, sym, refl, ap, ◌∙◌, subst, ⊎_elim, arith, get_or-set_other, get_or-set_same}
+use Rattle.std.proofs.Common.{◌≡◌, ℕ, zero, suc, ◌<◌, ◌≤◌, true, false, List, ◌∷◌, length, get_or, replicate, is_some, None, Ok, Err, Result, sym, refl, ap, ◌∙◌, subst, ⊎_elim, arith, get_or-set_other, get_or-set_same}
 use Rattle.std.proofs.lemmas.List.{get_or-replicate, length-replicate, get_or_past}
 use Rattle.std.proofs.lemmas.Bool.{both_ways, cases_lt}
 use Rattle.refusal.specs.declared.Refusal.{Refusal}
@@ -8,13 +8,14 @@ use Rattle.disk.specs.Meaning.{Meaning}
 use Rattle.disk.specs.Rules.{Reasons, RefusedFor, StartRule}
 use Rattle.disk.specs.declared.Outcome.{Outcome}
 use Rattle.disk.specs.declared.Outcome.TheVariants.{Written, Failed}
-use Rattle.rows.specs.Blocks.{Whole, put_block}
-use Rattle.rows.specs.Marks.{first_by}
+use Rattle.rows.specs.Blocks.{Whole, block, put_block}
+use Rattle.rows.proofs.Firsts.{position-none}
+use Rattle.rows.proofs.Options.{some_mapped, open-when}
 use Rattle.rows.proofs.Sets.{at_set}
 use Rattle.page_disk.specs.declared.pages.Page.{Page}
 use Rattle.page_disk.specs.declared.pages.Page.TheVariants.{Retired, Spare, Medium, Image}
 use Rattle.page_disk.specs.declared.pages.Pages.{Pages}
-use Rattle.page_disk.specs.Pages.{same_page, live, put_page}
+use Rattle.page_disk.specs.Pages.{same_page, live, place, put_page}
 use Rattle.page_disk.specs.Wear.{PageFinish, EndsIn, landed}
 use Rattle.page_disk.specs.Paged.{paged}
 use Rattle.page_disk.specs.Runs.{WriteOf, WornOut, CanWearOut}
@@ -31,9 +32,12 @@ table p q a c = record { blocks = 1; pages = two p q; lives = a ∷ c ∷ replic
 abbrev zeros : List ℕ
 zeros = replicate 256 0
 
--- a page that is not retired is one of the two
+-- every other page is retired
+retired : (i : ℕ) → get_or (replicate 78 Retired) i Retired ≡ Retired
+retired i = ⊎_elim (get_or-replicate 78 i Retired Retired) (λ l. get_or_past (replicate 78 Retired) i Retired (omega (arith, length-replicate 78 Retired))) (cases_lt i 78)
+
 beyond : (i : ℕ) → live (get_or (replicate 78 Retired) i Retired) ≡ false
-beyond i = ⊎_elim (λ l. ap live (get_or-replicate 78 i Retired Retired l)) (λ l. ap live (get_or_past (replicate 78 Retired) i Retired (omega (arith, length-replicate 78 Retired)))) (cases_lt i 78)
+beyond i = ap live (retired i)
 
 first_of : (p q w : Page) (i : ℕ) → live w ≡ true → (q ≡ w → ⊥) → get_or (two p q) i Retired ≡ w → i ≡ 0
 first_of p q w zero l d e = refl
@@ -153,14 +157,25 @@ shut-only why NumbersUsedUp a b c d r = absurd r
 shut-only why UnfitBuffer a b c d r = absurd r
 shut-only why TooManyHeld a b c d r = absurd r
 
--- with the block in the first page and the second retired no start is accepted
+-- with the block in the first page and the second retired nothing else is found
+nowhere : (w : Page) → same_page w (Medium 0) ≡ false → same_page w Retired ≡ false → place w (two (Medium 0) Retired) ≡ None
+nowhere w f g = position-none (same_page w) (two (Medium 0) Retired) Retired (λ j _. each j)
+  where
+    each : (j : ℕ) → same_page w (get_or (two (Medium 0) Retired) j Retired) ≡ false
+    each zero = f
+    each (suc zero) = g
+    each (suc (suc i)) = ap (same_page w) (retired i) ∙ g
+
+-- so no start is accepted
 refused : (w image : List ℕ) (after : Meaning) (answer : Result (Unit {0}) Refusal) → Whole image → StartRule (paged w (table (Medium 0) Retired 0 0)) 0 image after answer → answer ≡ Err BlockNotOpen
-unfolding first_by
-refused w image after (Ok x) h r = absurd (both_ways false refl r.1)
-refused w image after (Err e) h r = ap Err (shut-only _ e (λ f. f h) (λ f. omega (arith, f.1)) (λ f. both_ways false refl f.2) (λ f. f) r.1)
+refused w image after (Ok x) h r =
+    let closed = open-when true (is_some (place Spare (two (Medium 0) Retired))) (place (Image 0) (two (Medium 0) Retired)) refl (nowhere (Image 0) refl refl) in
+    absurd (both_ways _ (closed ∙ ap is_some (nowhere Spare refl refl)) r.1)
+refused w image after (Err e) h r =
+    let idle = some_mapped (λ j. block j w) (place (Image 0) (two (Medium 0) Retired)) ∙ ap is_some (nowhere (Image 0) refl refl) in
+    ap Err (shut-only _ e (λ f. f h) (λ f. omega (arith, f.1)) (λ f. both_ways _ idle f.2) (λ f. f) r.1)
 
 pub worn-out : WornOut
-unfolding first_by
 worn-out x z w image u v p q r after answer run h s =
     let e1 = alive 1 0 0 (during 1 (table (Medium 0) Spare 1 1)) run.t p refl (goes (table (Medium 0) Spare 1 1) 1 0 (ready-second 1 1) x run.y p run.t run.first) in
     let w2 : WriteOf run.y (table Spare (Medium 0) 1 0) 0 q z u = subst (λ (a : Pages). WriteOf run.y a 0 q z u) e1.1 run.second in

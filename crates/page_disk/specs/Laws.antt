@@ -1,45 +1,34 @@
 -- Why the laws of every disk hold of a page disk under its condition.
-use Rattle.std.specs.Prelude.{◌≡◌, ℕ, ◌+◌, ◌<◌, true, false, cond, List, [], ◌∷◌, length, is_some, Some, None, count_by, Option, slice_index_or, refl}
-use Rattle.std.proofs.Common.{sym, ap, ◌∙◌, ⊎_elim, arith}
-use Rattle.std.specs.Option.{unwrap_or}
+use Rattle.std.specs.Prelude.{◌≡◌, ℕ, suc, ◌+◌, ◌<◌, Bool, true, false, not, ◌&&◌, cond, List, [], ◌∷◌, length, is_some, Some, None, count_by, position, Option, slice_index_or, refl}
+use Rattle.std.proofs.Common.{sym, ap, ◌∙◌, ⊎_elim, arith, rules}
+use Rattle.std.specs.Option.{option_map, unwrap_or}
 use Rattle.std.proofs.lemmas.List.{get_or_past}
+use Rattle.std.proofs.lemmas.List.Quantifiers.{position-Some}
 use Rattle.std.proofs.lemmas.List.Sums.{sum_by-cons}
 use Rattle.std.proofs.lemmas.Bool.{both_ways, cases_lt, eqb-true, eq-eqb, lt-ltb, ltb-true, leb-false, and_parts, and_from, not-true, not_from_false}
 use Rattle.disk.specs.Meaning.{Lawful, Still, flies}
 use Rattle.rows.specs.Blocks.{Has, Whole, block}
-use Rattle.rows.specs.Marks.{first_by}
-use Rattle.rows.proofs.Firsts.{first_by-none, found, missing, count_none, some-count}
+use Rattle.rows.proofs.Firsts.{position-none, position-cons, missing, count_none, some-count}
 use Rattle.rows.proofs.Options.{some_mapped, some-from, mapped_at}
 use Rattle.rows.proofs.Puts.{length-block}
 use Rattle.rows.proofs.Sets.{only}
 use Rattle.page_disk.specs.declared.pages.Page.{Page}
 use Rattle.page_disk.specs.declared.pages.Page.TheVariants.{Retired, Spare, Medium, Image}
 use Rattle.page_disk.specs.declared.pages.Pages.{Pages}
-use Rattle.page_disk.specs.Pages.{same_page, live, holds, carries, place}
+use Rattle.page_disk.specs.Pages.{same_page, live, holds, carries, idle, place}
 use Rattle.page_disk.specs.Paged.{paged, Sound}
 
 -- two pages that are for the same are equal
 pub same-page : (w x : Page) → same_page w x ≡ true → x ≡ w
 same-page Retired Retired e = refl
-same-page Retired Spare e = absurd (both_ways false refl e)
-same-page Retired (Medium b) e = absurd (both_ways false refl e)
-same-page Retired (Image b) e = absurd (both_ways false refl e)
-same-page Spare Retired e = absurd (both_ways false refl e)
 same-page Spare Spare e = refl
-same-page Spare (Medium b) e = absurd (both_ways false refl e)
-same-page Spare (Image b) e = absurd (both_ways false refl e)
-same-page (Medium a) Retired e = absurd (both_ways false refl e)
-same-page (Medium a) Spare e = absurd (both_ways false refl e)
 same-page (Medium a) (Medium b) e = ap Medium (sym (eqb-true a b e))
-same-page (Medium a) (Image b) e = absurd (both_ways false refl e)
-same-page (Image a) Retired e = absurd (both_ways false refl e)
-same-page (Image a) Spare e = absurd (both_ways false refl e)
-same-page (Image a) (Medium b) e = absurd (both_ways false refl e)
 same-page (Image a) (Image b) e = ap Image (sym (eqb-true a b e))
+same-page _ _ e = search rules
 
 -- what stands at the page that was found
 pub found-page : (w : Page) (ps : List Page) (j : ℕ) → place w ps ≡ Some j → slice_index_or ps j Retired ≡ w
-found-page w ps j e = same-page w (slice_index_or ps j Retired) (found (same_page w) ps Retired j e).1
+found-page w ps j e = same-page w (slice_index_or ps j Retired) (position-Some (same_page w) ps j Retired e).1
 
 -- a page that is not retired is in the table
 pub in_table : (ps : List Page) (j : ℕ) (x : Page) → slice_index_or ps j Retired ≡ x → live x ≡ true → j < length ps
@@ -63,8 +52,17 @@ idle-page b (Medium a) e = refl
 idle-page b (Image a) e = absurd (both_ways true e refl)
 
 -- where no page has an image no block is in flight
-pub idle-image : (ps : List Page) → first_by carries ps ≡ None → (b : ℕ) → place (Image b) ps ≡ None
-idle-image ps e b = first_by-none (same_page (Image b)) ps Retired (λ j l. idle-page b (slice_index_or ps j Retired) (missing carries ps Retired e j l))
+pub idle-image : (ps : List Page) → position carries ps ≡ None → (b : ℕ) → place (Image b) ps ≡ None
+idle-image ps e b = position-none (same_page (Image b)) ps Retired (λ j l. idle-page b (slice_index_or ps j Retired) (missing carries ps Retired e j l))
+
+-- no page has an image just where none is found that has one
+pub idle-found : (ps : List Page) → idle ps ≡ not (is_some (position carries ps))
+idle-found [] = refl
+idle-found (x ∷ ps) = next (carries x) (idle-found ps) ∙ ap (λ (o : Option ℕ). not (is_some o)) (sym (position-cons carries x ps))
+  where
+    next : (t : Bool) → idle ps ≡ not (is_some (position carries ps)) → (not t && idle ps) ≡ not (is_some (cond t (Some 0) (option_map suc (position carries ps))))
+    next true e = refl
+    next false e = e ∙ ap not (sym (some_mapped suc (position carries ps)))
 
 module _ (bytes : List ℕ) (t : Pages) (s : Sound bytes t) where
   pub flies-paged : (b : ℕ) → flies (paged bytes t) b ≡ is_some (place (Image b) t.pages)
@@ -83,8 +81,8 @@ module _ (bytes : List ℕ) (t : Pages) (s : Sound bytes t) where
   image-below b j e = s.below b (ap is_some (image-found b j e))
 
   -- where nothing is in flight no page has an image
-  pub still-idle : Still (paged bytes t) → first_by carries t.pages ≡ None
-  still-idle still = first_by-none carries t.pages Retired (λ j l. clear j (slice_index_or t.pages j Retired) refl)
+  pub still-idle : Still (paged bytes t) → position carries t.pages ≡ None
+  still-idle still = position-none carries t.pages Retired (λ j l. clear j (slice_index_or t.pages j Retired) refl)
     where
       clear : (j : ℕ) (x : Page) → slice_index_or t.pages j Retired ≡ x → carries x ≡ false
       clear j Retired e = refl

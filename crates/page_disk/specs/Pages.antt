@@ -1,7 +1,6 @@
 -- The pages of a page disk: what each is for, and how they begin.
-use Rattle.std.specs.Prelude.{◌≡◌, ℕ, ◌<◌, ◌≤◌, Bool, true, false, cond, List, map, length, Some, None, Option, ◌==◌, ◌≢◌, nat_lt, slice_index, slice_index_or, slice_set}
-use Rattle.std.specs.List.{range_with_len}
-use Rattle.rows.specs.Marks.{first_by}
+use Rattle.std.specs.Prelude.{◌≡◌, ℕ, ◌<◌, ◌≤◌, Bool, true, false, not, cond, List, map, length, Some, None, position, Option, ◌==◌, ◌≢◌, nat_lt, slice_index, slice_index_or, slice_set}
+use Rattle.std.specs.List.{list_all, range_with_len}
 use Rattle.page_disk.specs.declared.pages.Page.{Page}
 use Rattle.page_disk.specs.declared.pages.Page.TheVariants.{Retired, Spare, Medium, Image}
 use Rattle.page_disk.specs.declared.pages.Pages.{Pages}
@@ -46,9 +45,13 @@ carries Spare = false
 carries (Medium b) = false
 carries (Image b) = true
 
+-- whether no page has an image in flight
+abbrev pub idle : List Page → Bool
+idle pages = list_all (λ page. not (carries page)) pages
+
 -- the lowest page that is for this
 abbrev pub place : Page → List Page → Option ℕ
-place wanted pages = first_by (same_page wanted) pages
+place wanted pages = position (same_page wanted) pages
 
 -- of p pages for n blocks, page j as it begins: block b is in page b, the others are spare
 abbrev pub fresh_page : ℕ → ℕ → ℕ → Page

@@ -8,16 +8,12 @@ mod pages;
 pub use paged::Paged;
 
 // In every run as many writes succeed as life is used up, and as many fail as pages are retired.
-pub fn wear_counted() -> u8
+pub fn wear_counted()
     ensures { WearCounted }
-{
-    0
-}
+{}
 
 // One block in two pages of life 1: two writes succeed, the third fails, and then no start is accepted.
-pub fn worn_out() -> u8
+pub fn worn_out()
     ensures only { WornOut }
     ensures can { CanWearOut }
-{
-    0
-}
+{}

@@ -3,13 +3,13 @@ ghost use Rattle.disk.specs.Meaning.{Still};
 ghost use Rattle.disk.specs.Rules.{CheckRule};
 ghost use Rattle.rows.specs.Blocks.{Has, Whole, block, put_block};
 ghost use Rattle.page_disk.specs.declared.pages.Page.TheVariants.{Image};
-ghost use Rattle.page_disk.specs.Pages.{fresh, put_page};
+ghost use Rattle.page_disk.specs.Pages.{fresh, put_page, BestBelow};
 ghost use Rattle.page_disk.specs.Wear.{PageStart, PageFinish};
 ghost use Rattle.page_disk.specs.Paged.{Fit, paged, Sound, Begins};
 ghost use Rattle.page_disk.specs.Laws.{lawful-paged};
 
 use crate::pages::{MOST_PAGES, Pages};
-use disk::{BLOCK, Disk, InFlight, Outcome};
+use disk::{BLOCK, Disk, InFlight, Outcome, check_block, check_bytes};
 use refusal::Refusal;
 use rows::{get_block, put_block};
 
@@ -21,6 +21,8 @@ const MOST_BLOCKS: u16 = 64;
 pub struct Paged<'a> {
     bytes: &'a mut [u8],
     pages: Pages,
+    // Each block is in one page, each in flight has one image, and the pages in use are within the bytes.
+    ghost sound: { Sound bytes.now pages },
 }
 
 impl<'a> Paged<'a> {
@@ -45,7 +47,6 @@ impl<'a> Paged<'a> {
         ensures bytes { result.bytes.now ≡ bytes.old }
         ensures pages { result.pages ≡ fresh blocks lives.now }
         ensures begins { Begins result.bytes.now blocks lives.now result.pages }
-        ensures sound { Sound result.bytes.now result.pages }
         ensures still { Still (paged result.bytes.now result.pages) }
     {
         Paged {
@@ -60,7 +61,6 @@ impl<'a> Paged<'a> {
         ensures fit { Fit (length bytes.old) blocks (length lives.now) → result.pages ≡ fresh blocks lives.now }
         ensures begins { Fit (length bytes.old) blocks (length lives.now) → Begins result.bytes.now blocks lives.now result.pages }
         ensures unfit { (Fit (length bytes.old) blocks (length lives.now) → ⊥) → result.pages ≡ fresh 0 [] }
-        ensures sound { Sound result.bytes.now result.pages }
         ensures still { Still (paged result.bytes.now result.pages) }
     {
         if Paged::check(bytes, blocks, lives).is_err() {
@@ -78,32 +78,38 @@ impl Paged<'_> {
         self.pages.is_spent()
     }
 
+    // The spare page with most life left, the lower number among equals.
+    fn best(&self) -> Option<usize>
+        ensures { BestBelow self.now.pages.pages self.now.pages.lives (length self.now.pages.pages) result }
+    {
+        self.pages.best()
+    }
+
     // Copies out page j.
     fn copy_out(&self, j: usize, into: &mut [u8])
         requires { Has j self.now.bytes.now × Whole into.old }
         ensures { into.new ≡ block j self.now.bytes.now }
     {
-        get_block(self.bytes, j, into);
+        get_block(self.bytes, j, into).unwrap();
     }
+}
 
-    // Puts the image of block b into page j.
-    fn take(&mut self, j: usize, b: u16, image: &[u8])
-        requires image { Has j self.old.bytes.now × Whole image.now }
-        requires page { (length self.old.pages.pages ≡ 80) × (j < 80) }
-        ensures bytes { self.new.bytes.now ≡ put_block j image.now self.old.bytes.now }
-        ensures pages { self.new.pages ≡ put_page j (Image b) self.old.pages }
-    {
-        put_block(self.bytes, j, image);
-        self.pages.take(j, b);
-    }
+// Puts the image of block b into page j.
+fn take(bytes: &mut [u8], pages: &mut Pages, j: usize, b: u16, image: &[u8])
+    requires within { Has j bytes.old }
+    requires whole { Whole image.now }
+    requires page { j < 80 }
+    ensures bytes { bytes.new ≡ put_block j image.now bytes.old }
+    ensures pages { pages.new ≡ put_page j (Image b) pages.old }
+{
+    put_block(bytes, j, image).unwrap();
+    pages.take(j, b);
 }
 
 impl Disk for Paged<'_> {
     ghost meaning = { λ x. paged x.bytes.now x.pages };
 
-    ghost sound = { λ x. Sound x.bytes.now x.pages };
-
-    ghost lawful = { λ x s. lawful-paged x.bytes.now x.pages s };
+    ghost lawful = { λ x. lawful-paged x.bytes.now x.pages x.sound };
 
     ghost reads = { λ x _ y. y ≡ x };
 
@@ -127,56 +133,38 @@ impl Disk for Paged<'_> {
         b < self.pages.blocks && self.pages.image_of(b).is_none() && self.pages.has_spare()
     }
 
+    #[tactic(auto, using(crate::specs::Laws::found_inside))]
     fn read(&mut self, b: u16, into: &mut [u8]) -> Result<(), Refusal> {
-        if into.len() != BLOCK {
-            return Err(Refusal::UnfitBytes);
-        }
-        let Some(j) = self.pages.page_of(b) else {
-            return Err(Refusal::NoSuchBlock);
-        };
+        check_bytes(into)?;
+        let j = self.pages.page_of(b).ok_or(Refusal::NoSuchBlock)?;
         self.copy_out(j, into);
         Ok(())
     }
 
     fn start(&mut self, b: u16, image: &[u8]) -> Result<(), Refusal> {
-        if image.len() != BLOCK {
-            return Err(Refusal::UnfitBytes);
-        }
-        if b >= self.pages.blocks {
-            return Err(Refusal::NoSuchBlock);
-        }
-        if self.pages.image_of(b).is_some() {
+        check_bytes(image)?;
+        check_block(b, self.pages.blocks)?;
+        if self.flying(b) {
             return Err(Refusal::BlockInFlight);
         }
-        let Some(j) = self.pages.best() else {
-            return Err(Refusal::BlockNotOpen);
-        };
-        self.take(j, b, image);
+        let j = self.best().ok_or(Refusal::BlockNotOpen)?;
+        take(self.bytes, &mut self.pages, j, b, image);
         Ok(())
     }
 
     fn finish(&mut self, b: u16) -> Result<Outcome, Refusal> {
-        let Some(old) = self.pages.page_of(b) else {
-            return Err(Refusal::NoSuchBlock);
-        };
-        let Some(j) = self.pages.image_of(b) else {
-            return Err(Refusal::BlockNotInFlight);
-        };
+        let old = self.pages.page_of(b).ok_or(Refusal::NoSuchBlock)?;
+        let j = self.pages.image_of(b).ok_or(Refusal::BlockNotInFlight)?;
         Ok(self.pages.end(j, old, b))
     }
 }
 
 impl InFlight for Paged<'_> {
+    #[tactic(auto, using(crate::specs::Laws::found_inside))]
     fn image(&self, b: u16, into: &mut [u8]) -> Result<(), Refusal> {
-        if into.len() != BLOCK {
-            return Err(Refusal::UnfitBytes);
-        }
-        if b >= self.pages.blocks {
-            return Err(Refusal::NoSuchBlock);
-        }
-        let Some(j) = self.pages.image_of(b) else {
-            return Err(Refusal::BlockNotInFlight);
-        };
+        check_bytes(into)?;
+        check_block(b, self.pages.blocks)?;
+        let j = self.pages.image_of(b).ok_or(Refusal::BlockNotInFlight)?;
         self.copy_out(j, into);
         Ok(())
     }

@@ -1,17 +1,16 @@
-ghost use Rattle.std.specs.Prelude.{◌≡◌, ◌+◌, ◌<◌, not, length, is_some, count_by, nat_le, slice_index};
-ghost use Rattle.rows.specs.Marks.{first_by};
+ghost use Rattle.std.specs.Prelude.{◌≡◌, ◌+◌, ◌<◌, length, is_some, count_by, nat_le};
 ghost use Rattle.page_disk.specs.declared.pages.Page.TheVariants.{Spare, Medium, Image};
-ghost use Rattle.page_disk.specs.Pages.{same_page, live, carries, place, fresh_page, fresh, put_page, BestBelow};
+ghost use Rattle.page_disk.specs.Pages.{live, carries, idle, place, fresh_page, fresh, put_page, BestBelow};
 ghost use Rattle.page_disk.specs.Wear.{EndsIn};
 
 use disk::Outcome;
-use rows::{Rule, Test, count, fill, find};
+use std::array;
 
 // The most pages that a page disk has.
 pub const MOST_PAGES: usize = 80;
 
 // What a page is for.
-#[derive(Clone, Copy)]
+#[derive(Clone, Copy, PartialEq, Eq)]
 pub enum Page {
     // Not to be used: worn out, or beyond the last page.
     Retired,
@@ -22,129 +21,40 @@ pub enum Page {
     Image(u16),
 }
 
-// A page passes that is the same as the wanted one.
-impl Test<Page> for Page {
-    ghost passes = { λ wanted page. same_page wanted page };
-
-    fn passes(&self, page: &Page) -> bool {
-        match (*self, *page) {
-            (Page::Retired, Page::Retired) => true,
-            (Page::Spare, Page::Spare) => true,
-            (Page::Medium(a), Page::Medium(b)) => a == b,
-            (Page::Image(a), Page::Image(b)) => a == b,
-            _ => false,
-        }
-    }
-}
-
-// The test for pages that are not retired.
-#[derive(Drop)]
-struct Live;
-
-impl Test<Page> for Live {
-    ghost passes = { λ _ page. live page };
-
-    fn passes(&self, page: &Page) -> bool {
-        match *page {
-            Page::Retired => false,
-            Page::Spare => true,
-            Page::Medium(_) => true,
-            Page::Image(_) => true,
-        }
-    }
-}
-
-// The test for pages with an image in flight.
-#[derive(Drop)]
-struct Carries;
-
-impl Test<Page> for Carries {
-    ghost passes = { λ _ page. carries page };
-
-    fn passes(&self, page: &Page) -> bool {
-        match *page {
-            Page::Retired => false,
-            Page::Spare => false,
-            Page::Medium(_) => false,
-            Page::Image(_) => true,
-        }
-    }
-}
-
-// The rule by which pages begin: block b is in page b, the other pages are spare.
-#[derive(Drop)]
-struct First {
-    blocks: u16,
-    count: usize,
-}
-
-impl Rule<Page> for First {
-    ghost at = { λ s i. fresh_page s.blocks s.count i };
-
-    fn at(&self, i: usize) -> Page {
-        if i < self.blocks as usize {
+impl Page {
+    // Page i of so many pages for so many blocks, as it begins: block b is in page b, the others are spare.
+    fn fresh(blocks: u16, count: usize, i: usize) -> Self
+        ensures { result ≡ fresh_page blocks count i }
+    {
+        if i < blocks as usize {
             Page::Medium(i as u16)
-        } else if i < self.count {
+        } else if i < count {
             Page::Spare
         } else {
             Page::Retired
         }
     }
-}
 
-// The rule by which lives begin: as they are given, and none for pages that are not there.
-#[derive(Drop)]
-struct Given<'a> {
-    lives: &'a [u16],
-}
-
-impl Rule<u16> for Given<'_> {
-    ghost at = { λ s i. slice_index s.lives.now i };
-
-    fn at(&self, i: usize) -> u16 {
-        if i < self.lives.len() {
-            self.lives[i]
-        } else {
-            0
-        }
+    // Whether the page is not retired.
+    fn is_live(self) -> bool
+        ensures { result ≡ live self }
+    {
+        !matches!(self, Page::Retired)
     }
-}
 
-// The better of the best spare page so far and page i.
-fn better(pages: &[Page], lives: &[u16], best: Option<usize>, i: usize) -> Option<usize>
-    requires within { (i < length pages.now) × (length lives.now ≡ length pages.now) }
-    requires best { BestBelow pages.now lives.now i best }
-    ensures { BestBelow pages.now lives.now (i + 1) result }
-{
-    if !Page::Spare.passes(&pages[i]) {
-        return best;
+    // Whether the page has an image in flight.
+    fn carries(self) -> bool
+        ensures { result ≡ carries self }
+    {
+        matches!(self, Page::Image(_))
     }
-    let Some(j) = best else {
-        return Some(i);
-    };
-    if lives[i] > lives[j] {
-        Some(i)
-    } else {
-        Some(j)
-    }
-}
-
-// The spare page with most life left, the lower number among equals.
-fn best_spare(pages: &[Page], lives: &[u16]) -> Option<usize>
-    requires { length lives.now ≡ length pages.now }
-    ensures { BestBelow pages.now lives.now (length pages.now) result }
-{
-    let mut best = None;
-    for i in 0..pages.len() {
-        best = better(pages, lives, best, i);
-    }
-    best
 }
 
 // The blocks of a page disk, what its pages are for, and what life they have left.
 #[derive(Drop)]
 pub struct Pages {
     pub blocks: u16,
+    // Two arrays, not one of pairs: each look-up, and each definition, asks one of them only.
     pub pages: [Page; MOST_PAGES],
     pub lives: [u16; MOST_PAGES],
 }
@@ -154,69 +64,71 @@ impl Pages {
     pub fn fresh(blocks: u16, lives: &[u16]) -> Self
         ensures { result ≡ fresh blocks lives.now }
     {
-        let mut pages = [Page::Retired; MOST_PAGES];
-        fill(
-            &mut pages,
-            &First {
-                blocks,
-                count: lives.len(),
-            },
-        );
-        let mut left = [0u16; MOST_PAGES];
-        fill(&mut left, &Given { lives });
         Pages {
             blocks,
-            pages,
-            lives: left,
+            pages: array::from_fn(|i| Page::fresh(blocks, lives.len(), i)),
+            lives: array::from_fn(|i| lives.get(i).copied().unwrap_or(0)),
         }
+    }
+
+    // The lowest page that is for this.
+    fn place_of(&self, wanted: Page) -> Option<usize>
+        ensures { result ≡ place wanted self.now.pages }
+    {
+        self.pages.iter().position(|p| *p == wanted)
     }
 
     // The page that has the medium's block b.
     pub fn page_of(&self, b: u16) -> Option<usize>
         ensures { result ≡ place (Medium b) self.now.pages }
     {
-        find(&self.pages, &Page::Medium(b))
+        self.place_of(Page::Medium(b))
     }
 
     // The page that has the image of block b in flight.
     pub fn image_of(&self, b: u16) -> Option<usize>
         ensures { result ≡ place (Image b) self.now.pages }
     {
-        find(&self.pages, &Page::Image(b))
+        self.place_of(Page::Image(b))
     }
 
     // Whether a spare page exists.
     pub fn has_spare(&self) -> bool
         ensures { result ≡ is_some (place Spare self.now.pages) }
     {
-        find(&self.pages, &Page::Spare).is_some()
+        self.place_of(Page::Spare).is_some()
     }
 
     // Whether nothing is in flight.
     pub fn is_idle(&self) -> bool
-        ensures { result ≡ not (is_some (first_by carries self.now.pages)) }
+        ensures { result ≡ idle self.now.pages }
     {
-        find(&self.pages, &Carries).is_none()
+        self.pages.iter().all(|p| !p.carries())
     }
 
     // Whether at most so many pages as there are blocks are not retired.
     pub fn is_spent(&self) -> bool
         ensures { result ≡ nat_le (count_by live self.now.pages) self.now.blocks }
     {
-        count(&self.pages, &Live) <= self.blocks as usize
+        self.pages.iter().filter(|p| p.is_live()).count() <= self.blocks as usize
     }
 
     // The spare page with most life left, the lower number among equals.
     pub fn best(&self) -> Option<usize>
-        requires { length self.now.lives ≡ length self.now.pages }
         ensures { BestBelow self.now.pages self.now.lives (length self.now.pages) result }
     {
-        best_spare(&self.pages, &self.lives)
+        let mut best: Option<usize> = None;
+        for (i, page) in self.pages.iter().enumerate() {
+            if *page == Page::Spare && best.is_none_or(|j| self.lives[i] > self.lives[j]) {
+                best = Some(i);
+            }
+        }
+        best
     }
 
     // Page j takes the image of block b.
     pub fn take(&mut self, j: usize, b: u16)
-        requires { (length self.old.pages ≡ 80) × (j < 80) }
+        requires { j < 80 }
         ensures { self.new ≡ put_page j (Image b) self.old }
     {
         self.pages[j] = Page::Image(b);
@@ -224,8 +136,7 @@ impl Pages {
 
     // Ends the write of block b from its page `old` to page j.
     pub fn end(&mut self, j: usize, old: usize, b: u16) -> Outcome
-        requires pages { (length self.old.pages ≡ 80) × (length self.old.lives ≡ 80) }
-        requires within { (j < 80) × (old < 80) }
+        requires { (j < 80) × (old < 80) }
         ensures { EndsIn j old self.old b result self.new }
     {
         if self.lives[j] == 0 {

@@ -5,7 +5,7 @@ use Rattle.std.proofs.lemmas.Bool.{both_ways}
 use Rattle.std.specs.Option.{option_map}
 use Rattle.disk.specs.Meaning.{Still}
 use Rattle.rows.specs.Blocks.{block}
-use Rattle.rows.proofs.Firsts.{first_by-none}
+use Rattle.rows.proofs.Firsts.{position-none}
 use Rattle.plain_disk.specs.declared.places.Slot.TheVariants.{Free, Holding, Absent}
 use Rattle.plain_disk.specs.Slots.{same_slot, present, fresh_slot, fresh_slots}
 use Rattle.plain_disk.specs.Places.{fresh}
@@ -42,4 +42,4 @@ sound-fresh bytes n k few some most long =
 
 -- nothing is in flight
 pub still-fresh : (bytes : List ℕ) (n k : ℕ) → Still (plain bytes (fresh n k))
-still-fresh bytes n k b l = ap (λ (o : Option ℕ). is_some (option_map (λ j. block (n + j) bytes) o)) (first_by-none (same_slot (Holding b)) (fresh_slots k) Free (empty k b))
+still-fresh bytes n k b l = ap (λ (o : Option ℕ). is_some (option_map (λ j. block (n + j) bytes) o)) (position-none (same_slot (Holding b)) (fresh_slots k) Free (empty k b))

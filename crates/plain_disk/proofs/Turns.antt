@@ -2,9 +2,10 @@
 use Rattle.std.proofs.Common.{◌≡◌, ℕ, ◌+◌, ◌<◌, true, false, ltb, List, length, get_or, set, is_some, Some, None, sym, refl, ap, ◌∙◌, subst, subst₂, arith, length-set}
 use Rattle.std.specs.Option.{option_map}
 use Rattle.std.proofs.lemmas.Bool.{both_ways, eqb-true, eq-eqb, ne_eqb, lt-ltb}
+use Rattle.std.proofs.lemmas.List.Quantifiers.{position-Some}
 use Rattle.disk.specs.Rules.{StartEffect, WriteEffect}
 use Rattle.rows.specs.Blocks.{Has, Whole, block, put_block}
-use Rattle.rows.proofs.Firsts.{first_by-set, found, missing}
+use Rattle.rows.proofs.Firsts.{position-set, missing}
 use Rattle.rows.proofs.Options.{mapped-same, open-when}
 use Rattle.rows.proofs.Puts.{length-block, length-put, block-put-same, block-put-other}
 use Rattle.rows.proofs.Sets.{false-from, at_set, one_set, none-set, first-set}
@@ -46,12 +47,12 @@ module _ (bytes : List ℕ) (p : Places) (s : Sound bytes p) (j : ℕ) (here : j
 -- the image in flight at a stays where the new slot holds a just where the old one did, and the block at its place stays
 air-same : (bytes new : List ℕ) (p : Places) (j : ℕ) (v : Slot) (a : ℕ) → same_slot (Holding a) (get_or p.slots j Free) ≡ same_slot (Holding a) v → ((i : ℕ) → place (Holding a) p.slots ≡ Some i → block (p.blocks + i) new ≡ block (p.blocks + i) bytes) → (plain new (put_slot j v p)).air a ≡ (plain bytes p).air a
 air-same bytes new p j v a e h =
-    ap (option_map (λ i. block (p.blocks + i) new)) (first_by-set (same_slot (Holding a)) p.slots Free j v e)
+    ap (option_map (λ i. block (p.blocks + i) new)) (position-set (same_slot (Holding a)) p.slots Free j v e)
     ∙ mapped-same (λ i. block (p.blocks + i) new) (λ i. block (p.blocks + i) bytes) (place (Holding a) p.slots) h
 
 module _ (bytes : List ℕ) (p : Places) (s : Sound bytes p) (b j : ℕ) (image : List ℕ) (lowest : place Free p.slots ≡ Some j) (idle : place (Holding b) p.slots ≡ None) (below : b < p.blocks) (whole : Whole image) where
   free : same_slot Free (get_or p.slots j Free) ≡ true
-  free = (found (same_slot Free) p.slots Free j lowest).1
+  free = (position-Some (same_slot Free) p.slots j Free lowest).1
 
   here : j < p.count
   here = there-at bytes p s Free j refl lowest
@@ -66,7 +67,7 @@ module _ (bytes : List ℕ) (p : Places) (s : Sound bytes p) (b j : ℕ) (image 
 
   -- the block is now found at the place that it took
   taken : place (Holding b) (set p.slots j (Holding b)) ≡ Some j
-  taken = first-set (same_slot (Holding b)) p.slots Free j (Holding b) (found (same_slot Free) p.slots Free j lowest).0 (λ i h _. missing (same_slot (Holding b)) p.slots Free idle i h) (eq-eqb b b refl)
+  taken = first-set (same_slot (Holding b)) p.slots Free j (Holding b) (position-Some (same_slot Free) p.slots j Free lowest).0 (λ i h _. missing (same_slot (Holding b)) p.slots Free idle i h) (eq-eqb b b refl)
 
   start-effect : StartEffect (plain bytes p) b image (plain (put_block (p.blocks + j) image bytes) (put_slot j (Holding b) p))
   start-effect = record {
@@ -75,7 +76,7 @@ module _ (bytes : List ℕ) (p : Places) (s : Sound bytes p) (b j : ℕ) (image 
     here = ap (option_map (λ i. block (p.blocks + i) (put_block (p.blocks + j) image bytes))) taken ∙ ap Some (block-put-same (p.blocks + j) image bytes fits whole);
     elsewhere = λ a d. air-same bytes (put_block (p.blocks + j) image bytes) p j (Holding b) a (free_other a (get_or p.slots j Free) free ∙ sym (ne_eqb a b d))
         (λ i e. block-put-other (p.blocks + j) image bytes fits whole (p.blocks + i) (λ q.
-        both_ways _ (free_other a (get_or p.slots j Free) free) (subst (λ (m : ℕ). same_slot (Holding a) (get_or p.slots m Free) ≡ true) (omega (arith, q)) (found (same_slot (Holding a)) p.slots Free i e).1)));
+        both_ways _ (free_other a (get_or p.slots j Free) free) (subst (λ (m : ℕ). same_slot (Holding a) (get_or p.slots m Free) ≡ true) (omega (arith, q)) (position-Some (same_slot (Holding a)) p.slots i Free e).1)));
     spent = refl;
   }
 
@@ -87,7 +88,7 @@ module _ (bytes : List ℕ) (p : Places) (s : Sound bytes p) (b j : ℕ) (held :
   below = held_below bytes p s b j held
 
   taking : same_slot (Holding b) (get_or p.slots j Free) ≡ true
-  taking = (found (same_slot (Holding b)) p.slots Free j held).1
+  taking = (position-Some (same_slot (Holding b)) p.slots j Free held).1
 
   pub source_fits : Has (p.blocks + j) bytes
   source_fits = place-fits bytes p s b j below seated
@@ -108,7 +109,7 @@ module _ (bytes : List ℕ) (p : Places) (s : Sound bytes p) (b j : ℕ) (held :
     blocks = refl;
     here = ap (option_map (λ i. block (p.blocks + i) bytes)) held ∙ ap Some (sym (block-put-same b (block (p.blocks + j) bytes) bytes target_fits whole));
     medium = λ a l d. block-put-other b (block (p.blocks + j) bytes) bytes target_fits whole a d;
-    landed = ap (option_map (λ i. block (p.blocks + i) (put_block b (block (p.blocks + j) bytes) bytes))) (none-set (same_slot (Holding b)) p.slots Free (s.apart b) j Free (found (same_slot (Holding b)) p.slots Free j held).0 taking refl);
+    landed = ap (option_map (λ i. block (p.blocks + i) (put_block b (block (p.blocks + j) bytes) bytes))) (none-set (same_slot (Holding b)) p.slots Free (s.apart b) j Free (position-Some (same_slot (Holding b)) p.slots j Free held).0 taking refl);
     elsewhere = λ a d. air-same bytes (put_block b (block (p.blocks + j) bytes) bytes) p j Free a (false-from (same_slot (Holding a) (get_or p.slots j Free)) (λ t. d (same_block a b (get_or p.slots j Free) t taking)))
         (λ i e. block-put-other b (block (p.blocks + j) bytes) bytes target_fits whole (p.blocks + i) (λ q. omega (arith, below)));
     spent = refl;
@@ -121,19 +122,37 @@ open-while bytes p b s idle below =
 
 -- what stands at the place that was found, and at those below it
 pub found-slot : (w : Slot) (ss : List Slot) (j : ℕ) → place w ss ≡ Some j → get_or ss j Absent ≡ w
-found-slot w ss j e = let f = found (same_slot w) ss Absent j e in same-is w (get_or ss j Absent) f.1
+found-slot w ss j e = let f = position-Some (same_slot w) ss j Absent e in same-is w (get_or ss j Absent) f.1
 
 pub lower-slots : (w : Slot) (ss : List Slot) (j : ℕ) → same_slot w w ≡ true → place w ss ≡ Some j → (i : ℕ) → i < j → get_or ss i Absent ≡ w → ⊥
-lower-slots w ss j t e i l q = both_ways _ ((found (same_slot w) ss Absent j e).2 i l) (ap (same_slot w) q ∙ t)
+lower-slots w ss j t e i l q = both_ways _ ((position-Some (same_slot w) ss j Absent e).2 i l) (ap (same_slot w) q ∙ t)
 
--- a start keeps the condition and has the effect that every disk's start has
-pub started : (old : List ℕ) (p : Places) (b : ℕ) (image new : List ℕ) (q : Places) → Sound old p → place (Holding b) p.slots ≡ None → b < p.blocks → Whole image → PlainStart old p b image new q → Sound new q × StartEffect (plain old p) b image (plain new q)
-started old p b image new q s idle below whole st =
-    subst₂ (λ (xs : List ℕ) (x : Places). Sound xs x × StartEffect (plain old p) b image (plain xs x)) (sym st.bytes) (sym st.places)
-    (start-sound old p s b st.at image st.found idle below whole, start-effect old p s b st.at image st.found idle below whole)
+-- what is to be shown of a start: the condition after it, that the block was open, the effect that every disk's start has, and that of a plain disk's
+pub record Started (old : List ℕ) (p : Places) (b : ℕ) (image new : List ℕ) (q : Places) : Type 0 where
+  pub keeps : Sound new q
+  pub opens : (plain old p).opens b ≡ true
+  pub effect : StartEffect (plain old p) b image (plain new q)
+  pub starts : PlainStart old p b image new q
 
--- a finish keeps the condition and has the effect of every disk's written finish
-pub finished : (old : List ℕ) (p : Places) (b : ℕ) (new : List ℕ) (q : Places) → Sound old p → PlainFinish old p b new q → Sound new q × WriteEffect (plain old p) b (plain new q)
-finished old p b new q s fi =
-    subst₂ (λ (xs : List ℕ) (x : Places). Sound xs x × WriteEffect (plain old p) b (plain xs x)) (sym fi.bytes) (sym fi.places)
-    (finish-sound old p s b fi.at fi.found, write-effect old p s b fi.at fi.found)
+pub started : (old : List ℕ) (p : Places) (s : Sound old p) (b j : ℕ) (image new : List ℕ) (q : Places) → place (Holding b) p.slots ≡ None → b < p.blocks → Whole image → place Free p.slots ≡ Some j
+    → new ≡ put_block (p.blocks + j) image old → q ≡ put_slot j (Holding b) p → Started old p b image new q
+started old p s b j image new q idle below whole lowest bytes places = record {
+  keeps = subst₂ Sound (sym bytes) (sym places) (start-sound old p s b j image lowest idle below whole);
+  opens = open-while old p b s idle below ∙ ap is_some lowest;
+  effect = subst₂ (λ (xs : List ℕ) (x : Places). StartEffect (plain old p) b image (plain xs x)) (sym bytes) (sym places) (start-effect old p s b j image lowest idle below whole);
+  starts = record { at = j; found = lowest; free = found-slot Free p.slots j lowest; lowest = lower-slots Free p.slots j refl lowest; bytes = bytes; places = places };
+}
+
+-- the same of a finish
+pub record Finished (old : List ℕ) (p : Places) (b : ℕ) (new : List ℕ) (q : Places) : Type 0 where
+  pub keeps : Sound new q
+  pub effect : WriteEffect (plain old p) b (plain new q)
+  pub ends : PlainFinish old p b new q
+
+pub finished : (old : List ℕ) (p : Places) (s : Sound old p) (b j : ℕ) (new : List ℕ) (q : Places) → place (Holding b) p.slots ≡ Some j
+    → new ≡ put_block b (block (p.blocks + j) old) old → q ≡ put_slot j Free p → Finished old p b new q
+finished old p s b j new q held bytes places = record {
+  keeps = subst₂ Sound (sym bytes) (sym places) (finish-sound old p s b j held);
+  effect = subst₂ (λ (xs : List ℕ) (x : Places). WriteEffect (plain old p) b (plain xs x)) (sym bytes) (sym places) (write-effect old p s b j held);
+  ends = record { at = j; found = held; held = found-slot (Holding b) p.slots j held; bytes = bytes; places = places };
+}

@@ -1,12 +1,12 @@
 -- Why the laws of every disk hold of a plain disk under its condition.
-use Rattle.std.specs.Prelude.{◌≡◌, ℕ, zero, suc, ◌+◌, ◌<◌, ◌≤◌, true, false, cond, ltb, List, [], ◌∷◌, length, is_some, Some, None, nat_lt, slice_index_or, refl}
-use Rattle.std.proofs.Common.{sym, ap, ◌∙◌, ⊎_elim, arith}
-use Rattle.std.proofs.lemmas.Bool.{both_ways, eqb-true, eq-eqb, cases_lt, lt-ltb, le-ltb, ltb-true, and_parts, and_from, not-true, not_from_false}
+use Rattle.std.specs.Prelude.{◌≡◌, ℕ, zero, suc, ◌+◌, ◌<◌, ◌≤◌, true, false, cond, ltb, List, [], ◌∷◌, length, is_some, Some, None, position, nat_lt, slice_index_or, refl}
+use Rattle.std.proofs.Common.{sym, ap, ◌∙◌, ⊎_elim, arith, rules}
+use Rattle.std.proofs.lemmas.Bool.{both_ways, cond-false, eqb-true, eq-eqb, cases_lt, lt-ltb, le-ltb, ltb-true, and_parts, and_from, not-true, not_from_false}
 use Rattle.std.proofs.lemmas.List.Sums.{sum_by-cons}
+use Rattle.std.proofs.lemmas.List.Quantifiers.{position-Some}
 use Rattle.disk.specs.Meaning.{Lawful, Still, flies}
 use Rattle.rows.specs.Blocks.{Has, Whole, block}
-use Rattle.rows.specs.Marks.{first_by}
-use Rattle.rows.proofs.Firsts.{first_by-none, found, missing, count_none}
+use Rattle.rows.proofs.Firsts.{position-none, position-cons, missing, count_none, none-count}
 use Rattle.rows.proofs.Options.{some_mapped, none_from, some-from, mapped_at}
 use Rattle.rows.proofs.Puts.{length-block}
 use Rattle.plain_disk.specs.declared.places.Places.{Places}
@@ -21,44 +21,45 @@ ltb-suc a b = ⊎_elim (λ l. lt-ltb (suc a) (suc b) (omega arith) ∙ sym (lt-l
 -- two slots that are the same are equal
 pub same-is : (v s : Slot) → same_slot v s ≡ true → s ≡ v
 same-is Free Free e = refl
-same-is Free (Holding b) e = absurd (both_ways false refl e)
-same-is Free Absent e = absurd (both_ways false refl e)
-same-is (Holding a) Free e = absurd (both_ways false refl e)
 same-is (Holding a) (Holding b) e = ap Holding (sym (eqb-true a b e))
-same-is (Holding a) Absent e = absurd (both_ways false refl e)
-same-is Absent Free e = absurd (both_ways false refl e)
-same-is Absent (Holding b) e = absurd (both_ways false refl e)
 same-is Absent Absent e = refl
+same-is _ _ e = search rules
 
 idle-other : (b : ℕ) (s : Slot) → busy s ≡ false → same_slot (Holding b) s ≡ false
 idle-other b Free e = refl
 idle-other b (Holding a) e = absurd (both_ways true e refl)
 idle-other b Absent e = refl
 
+-- a slot that is not free in front changes not whether one is free
+next : (x : Slot) (ss : List Slot) → same_slot Free x ≡ false → is_some (place Free (x ∷ ss)) ≡ is_some (place Free ss)
+next x ss e = ap is_some (position-cons (same_slot Free) x ss ∙ cond-false _ _ _ e) ∙ some_mapped suc (place Free ss)
+
 -- where k places are there, one is free just while fewer than k are busy
 pub free-place : (k : ℕ) (ss : List Slot) → k ≤ length ss → ((j : ℕ) → j < length ss → present (slice_index_or ss j Free) ≡ nat_lt j k) → (is_some (place Free ss) ≡ nat_lt (flights ss) k) × (flights ss ≤ k)
-unfolding first_by
 free-place k [] l h = (sym (le-ltb 0 k (omega arith)), omega arith)
 free-place zero (Free ∷ ss) l h = absurd (both_ways true (h 0 (omega arith)) refl)
 free-place zero (Holding b ∷ ss) l h = absurd (both_ways true (h 0 (omega arith)) refl)
 free-place zero (Absent ∷ ss) l h =
     let r = free-place zero ss (omega arith) (λ j q. h (suc j) (omega arith) ∙ le-ltb (suc j) 0 (omega arith) ∙ sym (le-ltb j 0 (omega arith))) in
     let e = sum_by-cons (λ s. cond (busy s) 1 0) Absent ss in
-    (some_mapped suc (place Free ss) ∙ r.0 ∙ ap (λ (n : ℕ). ltb n 0) (omega (arith, e)), omega (arith, e, r.1))
+    (next Absent ss refl ∙ r.0 ∙ ap (λ (n : ℕ). ltb n 0) (omega (arith, e)), omega (arith, e, r.1))
 free-place (suc k) (Free ∷ ss) l h =
     let r = free-place k ss (omega arith) (λ j q. h (suc j) (omega arith) ∙ ltb-suc j k) in
     let e = sum_by-cons (λ s. cond (busy s) 1 0) Free ss in
-    (sym (lt-ltb (flights (Free ∷ ss)) (suc k) (omega (arith, e, r.1))), omega (arith, e, r.1))
+    (ap is_some (position-cons (same_slot Free) Free ss) ∙ sym (lt-ltb (flights (Free ∷ ss)) (suc k) (omega (arith, e, r.1))), omega (arith, e, r.1))
 free-place (suc k) (Holding b ∷ ss) l h =
     let r = free-place k ss (omega arith) (λ j q. h (suc j) (omega arith) ∙ ltb-suc j k) in
     let e = sum_by-cons (λ s. cond (busy s) 1 0) (Holding b) ss in
     let f : flights (Holding b ∷ ss) ≡ suc (flights ss) = omega (arith, e) in
-    (some_mapped suc (place Free ss) ∙ r.0 ∙ sym (ap (λ (n : ℕ). ltb n (suc k)) f ∙ ltb-suc (flights ss) k), omega (arith, e, r.1))
+    (next (Holding b) ss refl ∙ r.0 ∙ sym (ap (λ (n : ℕ). ltb n (suc k)) f ∙ ltb-suc (flights ss) k), omega (arith, e, r.1))
 free-place (suc k) (Absent ∷ ss) l h = absurd (both_ways (nat_lt 0 (suc k)) (sym (h 0 (omega arith))) (lt-ltb 0 (suc k) (omega arith)))
 
--- nothing is in flight where no place is busy
-pub idle-place : (ss : List Slot) → first_by busy ss ≡ None → (b : ℕ) → place (Holding b) ss ≡ None
-idle-place ss e b = first_by-none (same_slot (Holding b)) ss Free (λ j l. idle-other b (slice_index_or ss j Free) (missing busy ss Free e j l))
+-- nothing is in flight where no place is busy, found or counted
+pub none-place : (ss : List Slot) → position busy ss ≡ None → (b : ℕ) → place (Holding b) ss ≡ None
+none-place ss e b = position-none (same_slot (Holding b)) ss Free (λ j l. idle-other b (slice_index_or ss j Free) (missing busy ss Free e j l))
+
+pub idle-place : (ss : List Slot) → flights ss ≡ 0 → (b : ℕ) → place (Holding b) ss ≡ None
+idle-place ss e = none-place ss (none-count busy ss e)
 
 module _ (bytes : List ℕ) (p : Places) (s : Sound bytes p) where
   pub flies-plain : (b : ℕ) → flies (plain bytes p) b ≡ is_some (place (Holding b) p.slots)
@@ -67,12 +68,12 @@ module _ (bytes : List ℕ) (p : Places) (s : Sound bytes p) where
   -- a place that was looked up is one of those that are there
   pub there-at : (w : Slot) (j : ℕ) → present w ≡ true → place w p.slots ≡ Some j → j < p.count
   there-at w j h e =
-      let f = found (same_slot w) p.slots Free j e in
+      let f = position-Some (same_slot w) p.slots j Free e in
       ltb-true j p.count (sym (s.there j (omega (arith, f.0, s.eight))) ∙ ap present (same-is w (slice_index_or p.slots j Free) f.1) ∙ h)
 
   -- a block in flight is below the number of blocks
   pub held_below : (b j : ℕ) → place (Holding b) p.slots ≡ Some j → b < p.blocks
-  held_below b j e = let f = found (same_slot (Holding b)) p.slots Free j e in s.below j b (omega (arith, f.0, s.eight)) f.1
+  held_below b j e = let f = position-Some (same_slot (Holding b)) p.slots j Free e in s.below j b (omega (arith, f.0, s.eight)) f.1
 
   -- where there is a block, each place that is there lies within the bytes
   pub place-fits : (b j : ℕ) → b < p.blocks → j < p.count → Has (p.blocks + j) bytes
@@ -83,8 +84,8 @@ module _ (bytes : List ℕ) (p : Places) (s : Sound bytes p) where
   roomy = (free-place p.count p.slots (omega (arith, s.most, s.eight)) (λ j l. s.there j (omega (arith, s.eight)))).0
 
   -- where nothing is in flight no place is busy
-  pub still-idle : Still (plain bytes p) → first_by busy p.slots ≡ None
-  still-idle still = first_by-none busy p.slots Free (λ j l. clear j l (slice_index_or p.slots j Free) refl)
+  pub still-none : Still (plain bytes p) → position busy p.slots ≡ None
+  still-none still = position-none busy p.slots Free (λ j l. clear j l (slice_index_or p.slots j Free) refl)
     where
       clear : (j : ℕ) → j < length p.slots → (x : Slot) → slice_index_or p.slots j Free ≡ x → busy x ≡ false
       clear j l Free e = refl
@@ -93,6 +94,9 @@ module _ (bytes : List ℕ) (p : Places) (s : Sound bytes p) where
           let none = none_from _ (sym (flies-plain a) ∙ still a (s.below j a (omega (arith, s.eight)) h)) in
           absurd (both_ways _ (missing (same_slot (Holding a)) p.slots Free none j l) h)
       clear j l Absent e = refl
+
+  pub still-idle : Still (plain bytes p) → flights p.slots ≡ 0
+  still-idle still = count_none busy p.slots (still-none still)
 
   pub lawful-plain : Lawful (plain bytes p)
   lawful-plain = record {
@@ -103,5 +107,5 @@ module _ (bytes : List ℕ) (p : Places) (s : Sound bytes p) where
     flying_below = λ b e. some-from (b < p.blocks) (place (Holding b) p.slots) (sym (flies-plain b) ∙ e) (held_below b);
     open_below = λ b e. ltb-true b p.blocks (and_parts _ _ e).0;
     open_grounded = λ b e. flies-plain b ∙ not-true _ (and_parts _ _ (and_parts _ _ e).1).0;
-    idle_open = λ still _ b l. and_from _ _ (lt-ltb b p.blocks l) (and_from _ _ (not_from_false _ (sym (flies-plain b) ∙ still b l)) (lt-ltb _ _ (omega (arith, count_none busy p.slots (still-idle still), s.some))));
+    idle_open = λ still _ b l. and_from _ _ (lt-ltb b p.blocks l) (and_from _ _ (not_from_false _ (sym (flies-plain b) ∙ still b l)) (lt-ltb _ _ (omega (arith, still-idle still, s.some))));
   }

@@ -1,7 +1,6 @@
 -- The places for images in flight.
-use Rattle.std.specs.Prelude.{ℕ, Bool, true, false, cond, List, map, count_by, Option, ◌==◌, nat_lt}
+use Rattle.std.specs.Prelude.{ℕ, Bool, true, false, cond, List, map, count_by, position, Option, ◌==◌, nat_lt}
 use Rattle.std.specs.List.{range_with_len}
-use Rattle.rows.specs.Marks.{first_by}
 use Rattle.plain_disk.specs.declared.places.Slot.{Slot}
 use Rattle.plain_disk.specs.declared.places.Slot.TheVariants.{Free, Holding, Absent}
 
@@ -31,7 +30,7 @@ present Absent = false
 
 -- the lowest place with this slot
 abbrev pub place : Slot → List Slot → Option ℕ
-place wanted slots = first_by (same_slot wanted) slots
+place wanted slots = position (same_slot wanted) slots
 
 -- how many images are in flight
 abbrev pub flights : List Slot → ℕ

@@ -3,13 +3,14 @@ ghost use Rattle.disk.specs.declared.Outcome.TheVariants.{Written};
 ghost use Rattle.disk.specs.Meaning.{Still};
 ghost use Rattle.disk.specs.Rules.{CheckRule};
 ghost use Rattle.plain_disk.specs.declared.places.Slot.TheVariants.{Free, Holding};
-ghost use Rattle.rows.specs.Blocks.{Has, Whole, block, put_block};
+ghost use Rattle.rows.specs.Blocks.{Has, Whole, GetRule, block, put_block};
+ghost use Rattle.plain_disk.specs.Slots.{place};
 ghost use Rattle.plain_disk.specs.Places.{fresh, put_slot};
 ghost use Rattle.plain_disk.specs.Plain.{Fit, plain, Sound, PlainStart, PlainFinish};
 ghost use Rattle.plain_disk.specs.Laws.{lawful-plain};
 
 use crate::places::{MOST_PLACES, Places, Slot};
-use disk::{BLOCK, Disk, InFlight, Outcome};
+use disk::{BLOCK, Disk, InFlight, Outcome, check_block, check_bytes};
 use refusal::Refusal;
 use rows::{get_block, move_block, put_block};
 
@@ -18,6 +19,8 @@ use rows::{get_block, move_block, put_block};
 pub struct Plain<'a> {
     bytes: &'a mut [u8],
     places: Places,
+    // Each block in flight is in one place of those that are there, and the bytes fit.
+    ghost sound: { Sound bytes.now places },
 }
 
 impl<'a> Plain<'a> {
@@ -40,7 +43,6 @@ impl<'a> Plain<'a> {
         requires long { 0 < blocks → length bytes.old ≡ 256 * (blocks + places) }
         ensures bytes { result.bytes.now ≡ bytes.old }
         ensures places { result.places ≡ fresh blocks places }
-        ensures sound { Sound result.bytes.now result.places }
         ensures still { Still (plain result.bytes.now result.places) }
     {
         Plain {
@@ -54,7 +56,6 @@ impl<'a> Plain<'a> {
         ensures bytes { result.bytes.now ≡ bytes.old }
         ensures fit { Fit (length bytes.old) blocks places → result.places ≡ fresh blocks places }
         ensures unfit { (Fit (length bytes.old) blocks places → ⊥) → result.places ≡ fresh 0 1 }
-        ensures sound { Sound result.bytes.now result.places }
         ensures still { Still (plain result.bytes.now result.places) }
     {
         if Plain::check(bytes, blocks, places).is_err() {
@@ -66,64 +67,63 @@ impl<'a> Plain<'a> {
 
 impl Plain<'_> {
     // Copies out block i of the bytes.
-    fn copy_out(&self, i: usize, into: &mut [u8])
-        requires within { Has i self.now.bytes.now }
-        requires whole { Whole into.old }
-        ensures { into.new ≡ block i self.now.bytes.now }
+    fn copy_out(&self, i: usize, into: &mut [u8]) -> Result<(), Refusal>
+        ensures { GetRule self.now.bytes.now i into.old into.new result }
     {
-        get_block(self.bytes, i, into);
-    }
-
-    // Where place j lies among the blocks of the bytes.
-    fn row_of(&self, j: usize) -> usize
-        requires { Has (self.now.places.blocks + j) self.now.bytes.now }
-        ensures { result ≡ self.now.places.blocks + j }
-    {
-        j + self.places.blocks as usize
+        get_block(self.bytes, i, into)
     }
 
     // Copies out the image in place j.
-    fn show(&self, j: usize, into: &mut [u8])
-        requires within { Has (self.now.places.blocks + j) self.now.bytes.now }
-        requires whole { Whole into.old }
-        ensures { into.new ≡ block (self.now.places.blocks + j) self.now.bytes.now }
+    fn show(&self, j: usize, into: &mut [u8]) -> Result<(), Refusal>
+        requires { j < 8 }
+        ensures { GetRule self.now.bytes.now (self.now.places.blocks + j) into.old into.new result }
     {
-        self.copy_out(self.row_of(j), into);
+        self.copy_out(self.places.row_of(j), into)
     }
 
-    // Puts the image of block b into place j.
-    fn take(&mut self, j: usize, b: u16, image: &[u8])
-        requires within { Has (self.old.places.blocks + j) self.old.bytes.now }
-        requires whole { Whole image.now }
-        requires place { (length self.old.places.slots ≡ 8) × (j < 8) }
-        ensures bytes { self.new.bytes.now ≡ put_block (self.old.places.blocks + j) image.now self.old.bytes.now }
-        ensures places { self.new.places ≡ put_slot j (Holding b) self.old.places }
+    // The place that holds the image of block b.
+    fn place_of(&self, b: u16) -> Option<usize>
+        ensures { result ≡ place (Holding b) self.now.places.slots }
     {
-        let to = self.row_of(j);
-        put_block(self.bytes, to, image);
-        self.places.put(j, Slot::Holding(b));
+        self.places.place_of(b)
     }
 
-    // Copies the image in place j over block b of the medium, and frees the place.
-    fn land(&mut self, j: usize, b: u16)
-        requires source { Has (self.old.places.blocks + j) self.old.bytes.now }
-        requires target { Has b self.old.bytes.now }
-        requires place { (length self.old.places.slots ≡ 8) × (j < 8) }
-        ensures bytes { self.new.bytes.now ≡ put_block b (block (self.old.places.blocks + j) self.old.bytes.now) self.old.bytes.now }
-        ensures places { self.new.places ≡ put_slot j Free self.old.places }
+    // The lowest free place.
+    fn free_place(&self) -> Option<usize>
+        ensures { result ≡ place Free self.now.places.slots }
     {
-        let from = self.row_of(j);
-        move_block(self.bytes, from, b as usize);
-        self.places.put(j, Slot::Free);
+        self.places.free_place()
     }
+}
+
+// Puts the image of block b into place j.
+fn take(bytes: &mut [u8], places: &mut Places, j: usize, b: u16, image: &[u8])
+    requires within { Has (places.old.blocks + j) bytes.old }
+    requires whole { Whole image.now }
+    requires place { j < 8 }
+    ensures bytes { bytes.new ≡ put_block (places.old.blocks + j) image.now bytes.old }
+    ensures places { places.new ≡ put_slot j (Holding b) places.old }
+{
+    put_block(bytes, places.row_of(j), image).unwrap();
+    places.put(j, Slot::Holding(b));
+}
+
+// Copies the image in place j over block b of the medium, and frees the place.
+fn land(bytes: &mut [u8], places: &mut Places, j: usize, b: u16)
+    requires source { Has (places.old.blocks + j) bytes.old }
+    requires target { Has b bytes.old }
+    requires place { j < 8 }
+    ensures bytes { bytes.new ≡ put_block b (block (places.old.blocks + j) bytes.old) bytes.old }
+    ensures places { places.new ≡ put_slot j Free places.old }
+{
+    move_block(bytes, places.row_of(j), b as usize).unwrap();
+    places.put(j, Slot::Free);
 }
 
 impl Disk for Plain<'_> {
     ghost meaning = { λ x. plain x.bytes.now x.places };
 
-    ghost sound = { λ x. Sound x.bytes.now x.places };
-
-    ghost lawful = { λ x s. lawful-plain x.bytes.now x.places s };
+    ghost lawful = { λ x. lawful-plain x.bytes.now x.places x.sound };
 
     ghost reads = { λ x _ y. y ≡ x };
 
@@ -140,65 +140,43 @@ impl Disk for Plain<'_> {
     }
 
     fn flying(&self, b: u16) -> bool {
-        self.places.place_of(b).is_some()
+        self.place_of(b).is_some()
     }
 
     fn is_open(&self, b: u16) -> bool {
-        b < self.places.blocks && self.places.place_of(b).is_none() && self.places.has_room()
+        b < self.places.blocks && !self.flying(b) && self.places.has_room()
     }
 
     fn read(&mut self, b: u16, into: &mut [u8]) -> Result<(), Refusal> {
-        if into.len() != BLOCK {
-            return Err(Refusal::UnfitBytes);
-        }
-        if b >= self.places.blocks {
-            return Err(Refusal::NoSuchBlock);
-        }
-        self.copy_out(b as usize, into);
-        Ok(())
+        check_bytes(into)?;
+        check_block(b, self.places.blocks)?;
+        self.copy_out(b as usize, into)
     }
 
     fn start(&mut self, b: u16, image: &[u8]) -> Result<(), Refusal> {
-        if image.len() != BLOCK {
-            return Err(Refusal::UnfitBytes);
-        }
-        if b >= self.places.blocks {
-            return Err(Refusal::NoSuchBlock);
-        }
-        if self.places.place_of(b).is_some() {
+        check_bytes(image)?;
+        check_block(b, self.places.blocks)?;
+        if self.flying(b) {
             return Err(Refusal::BlockInFlight);
         }
-        let Some(j) = self.places.free_place() else {
-            return Err(Refusal::BlockNotOpen);
-        };
-        self.take(j, b, image);
+        let j = self.free_place().ok_or(Refusal::BlockNotOpen)?;
+        take(self.bytes, &mut self.places, j, b, image);
         Ok(())
     }
 
     fn finish(&mut self, b: u16) -> Result<Outcome, Refusal> {
-        if b >= self.places.blocks {
-            return Err(Refusal::NoSuchBlock);
-        }
-        let Some(j) = self.places.place_of(b) else {
-            return Err(Refusal::BlockNotInFlight);
-        };
-        self.land(j, b);
+        check_block(b, self.places.blocks)?;
+        let j = self.place_of(b).ok_or(Refusal::BlockNotInFlight)?;
+        land(self.bytes, &mut self.places, j, b);
         Ok(Outcome::Written)
     }
 }
 
 impl InFlight for Plain<'_> {
     fn image(&self, b: u16, into: &mut [u8]) -> Result<(), Refusal> {
-        if into.len() != BLOCK {
-            return Err(Refusal::UnfitBytes);
-        }
-        if b >= self.places.blocks {
-            return Err(Refusal::NoSuchBlock);
-        }
-        let Some(j) = self.places.place_of(b) else {
-            return Err(Refusal::BlockNotInFlight);
-        };
-        self.show(j, into);
-        Ok(())
+        check_bytes(into)?;
+        check_block(b, self.places.blocks)?;
+        let j = self.place_of(b).ok_or(Refusal::BlockNotInFlight)?;
+        self.show(j, into)
     }
 }

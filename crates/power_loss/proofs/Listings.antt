@@ -1,11 +1,10 @@
 -- The states by their numbers are every state that a loss of supply can leave.
-use Rattle.std.proofs.Common.{◌≡◌, ℕ, ◌+◌, ◌^◌, ◌<◌, Bool, true, false, cond, ◌&&◌, List, [], ◌∷◌, ◌++◌, map, length, get_or, is_some, Some, None, Option, unwrap_or, sym, refl, ap, ◌∙◌, subst, arith}
+use Rattle.std.proofs.Common.{◌≡◌, ℕ, ◌+◌, ◌^◌, ◌<◌, Bool, true, List, [], ◌∷◌, ◌++◌, map, length, get_or, sym, ap, ◌∙◌, subst, arith}
 use mathlib.Core.List.{map-map}
 use Rattle.std.specs.List.{range_with_len}
 use Rattle.std.proofs.lemmas.List.FromFn.{length-map-range_with_len, get_or-map-range_with_len, map-range_with_len_more}
 use Rattle.std.proofs.lemmas.List.{map_push}
 use Rattle.std.proofs.lemmas.List.Sums.{length-filter}
-use Rattle.std.proofs.lemmas.Bool.{and_parts, and_from}
 use Rattle.disk.specs.Meaning.{Meaning, Lawful, flies, stands}
 use Rattle.power_loss.specs.States.{in_flight, among, Chooses, Shows, Listing}
 use Rattle.power_loss.specs.Numbered.{airborne, picked}
@@ -18,27 +17,22 @@ length-airborne m = length-filter (flies m) (range_with_len 0 m.blocks)
 
 -- just the flying blocks are airborne
 airborne-flies : (m : Meaning) (b : ℕ) → among (airborne m) b ≡ true → flies m b ≡ true
-airborne-flies m b h = (and_parts (among (range_with_len 0 m.blocks) b) (flies m b) (sym (among-kept-by (flies m) (range_with_len 0 m.blocks) b) ∙ h)).1
+airborne-flies m b h = let kept = among-kept-by (flies m) (range_with_len 0 m.blocks) b in grind arith
 
 flies-airborne : (m : Meaning) → Lawful m → (b : ℕ) → flies m b ≡ true → among (airborne m) b ≡ true
 flies-airborne m w b f =
     let l = w.flying_below b f in
-    among-kept-by (flies m) (range_with_len 0 m.blocks) b ∙ and_from (among (range_with_len 0 m.blocks) b) (flies m b) (among-counting 0 m.blocks b (omega arith) (omega arith)) f
+    let kept = among-kept-by (flies m) (range_with_len 0 m.blocks) b in
+    let counted = among-counting 0 m.blocks b in
+    grind arith
 
 -- only flying blocks are picked
 pub picked-flies : (m : Meaning) (n b : ℕ) → among (picked n (airborne m)) b ≡ true → flies m b ≡ true
 picked-flies m n b h = airborne-flies m b (among-picked (airborne m) n b h)
 
 -- what stands depends on the flying blocks alone
-at-image : (o : Option (List ℕ)) (p q : Bool) (d : List ℕ) → (is_some o ≡ true → p ≡ q) → cond p (unwrap_or o d) d ≡ cond q (unwrap_or o d) d
-at-image (Some image) p q d h = ap (λ t. cond t image d) (h refl)
-at-image None true true d h = refl
-at-image None true false d h = refl
-at-image None false true d h = refl
-at-image None false false d h = refl
-
 stands_same : (m : Meaning) (p q : ℕ → Bool) (b : ℕ) → (flies m b ≡ true → p b ≡ q b) → stands m p b ≡ stands m q b
-stands_same m p q b h = at-image (m.air b) (p b) (q b) (m.medium b) h
+stands_same m p q b h = grind arith
 
 -- the blocks of the state in which the picked ones got written
 abbrev pub shown : Meaning → ℕ → List (List ℕ)
@@ -51,7 +45,10 @@ shown-shows m n chosen h =
 
 chooses-number : (m : Meaning) → Lawful m → (chosen : ℕ → Bool) → Chooses m chosen (picked (number chosen (airborne m)) (airborne m))
 chooses-number m w chosen b f =
-    ap (λ l. among l b) (picked-number chosen (airborne m)) ∙ among-kept-by chosen (airborne m) b ∙ ap (λ t. t && chosen b) (flies-airborne m w b f)
+    let picked = picked-number chosen (airborne m) in
+    let kept = among-kept-by chosen (airborne m) b in
+    let flying = flies-airborne m w b f in
+    grind arith
 
 module _ (m : Meaning) (w : Lawful m) where
   abbrev count : ℕ

@@ -1,43 +1,30 @@
 -- The numbers below 2 to the length of a list are its choices, each once.
-use Rattle.std.proofs.Common.{◌≡◌, ℕ, suc, ◌+◌, ◌*◌, ◌/◌, ◌%◌, ◌^◌, ◌<◌, ◌≤◌, Bool, true, false, cond, eqb, ◌⊎◌, List, [], ◌∷◌, ◌++◌, length, get_or, drop, filter, sym, refl, ap, ◌∙◌, inl, inr, ⊎_elim, append_assoc, append-nil, pow-suc, arith}
-use Rattle.std.proofs.lemmas.List.{at_drop_more, at_drop_all}
-use Rattle.std.proofs.lemmas.Bool.{cases_Bool, cases_lt, cond-true, cond-false, cond_both, eq-eqb, ne_eqb, or_left, or_right, or_cases, both_ways}
+use Rattle.std.proofs.Common.{◌≡◌, ◌≢◌, ◌==◌, map, ℕ, ◌+◌, ◌*◌, ◌/◌, ◌%◌, ◌^◌, ◌<◌, Bool, true, cond, List, [], ◌∷◌, length, filter, sym, refl, ap, ◌∙◌, add-one, pow-suc, arith}
+use Rattle.std.proofs.lemmas.Bool.{both_ways}
+use Rattle.std.proofs.Math.Nat.{div-one, div-div-eq-div-mul}
+use Rattle.std.specs.List.{enumerate_from}
 use Rattle.power_loss.specs.States.{among}
 use Rattle.power_loss.specs.Numbered.{picked}
-use Rattle.power_loss.proofs.Members.{Apart, among-here, among-past}
+use Rattle.power_loss.proofs.Members.{Apart}
 
--- by the lowest bit
-cases-bit : (n : ℕ) → (n % 2 ≡ 1) ⊎ (n % 2 ≡ 0)
-cases-bit n = ⊎_elim (λ l. inr (omega arith)) (λ g. inl (omega arith)) (cases_lt (n % 2) 1)
+-- a number's bits from k on pick the blocks at the places from k on
+picked-places_from : (n k : ℕ) (xs : List ℕ) → picked (n / 2 ^ k) xs ≡ map (λ p. p.1) (filter (λ p. n / 2 ^ p.0 % 2 == 1) (enumerate_from k xs))
+picked-places_from n k [] = refl
+picked-places_from n k (x ∷ xs) =
+    let next : n / 2 ^ k / 2 ≡ n / 2 ^ (k + 1) = div-div-eq-div-mul n (2 ^ k) 2 ∙ ap (λ d. n / d) (rw add-one (omega (arith, pow-suc 2 k))) in
+    let rest = ap (λ m. picked m xs) next ∙ picked-places_from n (k + 1) xs in
+    grind arith
 
-picked-odd : (n x : ℕ) (xs : List ℕ) → n % 2 ≡ 1 → picked n (x ∷ xs) ≡ x ∷ picked (n / 2) xs
-picked-odd n x xs e = cond-true (eqb (n % 2) 1) _ _ (eq-eqb (n % 2) 1 e)
-
-picked-even : (n x : ℕ) (xs : List ℕ) → n % 2 ≡ 0 → picked n (x ∷ xs) ≡ picked (n / 2) xs
-picked-even n x xs e = cond-false (eqb (n % 2) 1) _ _ (ne_eqb (n % 2) 1 (λ o. omega arith))
-
--- the block at place i is picked, or is not
-pub pick_more : (ws xs : List ℕ) (n i : ℕ) → i < length xs → n % 2 ≡ 1 → (ws ++ get_or xs i 0 ∷ []) ++ picked (n / 2) (drop (i + 1) xs) ≡ ws ++ picked n (drop i xs)
-pick_more ws xs n i l o =
-    append_assoc ws (get_or xs i 0 ∷ []) (picked (n / 2) (drop (i + 1) xs))
-    ∙ ap (λ t. ws ++ t) (sym (at_drop_more (picked n) xs i 0 l ∙ picked-odd n (get_or xs i 0) (drop (i + 1) xs) o))
-
-pub skip-more : (ws xs : List ℕ) (n i : ℕ) → i < length xs → n % 2 ≡ 0 → ws ++ picked (n / 2) (drop (i + 1) xs) ≡ ws ++ picked n (drop i xs)
-skip-more ws xs n i l z = ap (λ t. ws ++ t) (sym (at_drop_more (picked n) xs i 0 l ∙ picked-even n (get_or xs i 0) (drop (i + 1) xs) z))
-
-pub pick_all : (ws xs : List ℕ) (n i : ℕ) → length xs ≤ i → ws ≡ ws ++ picked n (drop i xs)
-pick_all ws xs n i l = sym (ap (λ t. ws ++ t) (at_drop_all (picked n) xs i l) ∙ append-nil ws)
+-- bit j of the number picks the block at place j
+pub picked-places : (n : ℕ) (xs : List ℕ) → picked n xs ≡ map (λ p. p.1) (filter (λ p. n / 2 ^ p.0 % 2 == 1) (enumerate_from 0 xs))
+picked-places n xs = ap (λ m. picked m xs) (sym (div-one n)) ∙ picked-places_from n 0 xs
 
 -- only blocks of the list are picked
 pub among-picked : (xs : List ℕ) (n b : ℕ) → among (picked n xs) b ≡ true → among xs b ≡ true
 among-picked [] n b h = h
 among-picked (x ∷ xs) n b h =
-    ⊎_elim
-    (λ o. let e = ap (λ l. among l b) (picked-odd n x xs o) in
-    ⊎_elim (λ s. or_left (eqb x b) (among xs b) s) (λ t. or_right (eqb x b) (among xs b) (among-picked xs (n / 2) b t)) (or_cases (eqb x b) (among (picked (n / 2) xs) b) (sym e ∙ h)))
-    (λ z. let e = ap (λ l. among l b) (picked-even n x xs z) in
-    or_right (eqb x b) (among xs b) (among-picked xs (n / 2) b (sym e ∙ h)))
-    (cases-bit n)
+    let ih = among-picked xs (n / 2) b in
+    grind arith
 
 -- the number of a choice
 abbrev pub number : (ℕ → Bool) → List ℕ → ℕ
@@ -49,49 +36,22 @@ number_lt p [] = omega arith
 number_lt p (x ∷ xs) =
     let ih = number_lt p xs in
     let e = pow-suc 2 (length xs) in
-    cond_both (p x) 1 0 (λ d. number p xs * 2 + d < 2 ^ suc (length xs)) (λ _. omega arith) (λ _. omega arith)
+    grind arith
 
 pub picked-number : (p : ℕ → Bool) (xs : List ℕ) → picked (number p xs) xs ≡ filter p xs
 picked-number p [] = refl
 picked-number p (x ∷ xs) =
-    let n = number p (x ∷ xs) in
     let ih = picked-number p xs in
-    ⊎_elim
-    (λ t. let d = cond-true {A = ℕ} (p x) 1 0 t in
-    let half : n / 2 ≡ number p xs = omega arith in
-    picked-odd n x xs (omega arith) ∙ ap (λ m. x ∷ picked m xs) half ∙ ap (λ l. x ∷ l) ih ∙ sym (cond-true (p x) _ _ t))
-    (λ f. let d = cond-false {A = ℕ} (p x) 1 0 f in
-    let half : n / 2 ≡ number p xs = omega arith in
-    picked-even n x xs (omega arith) ∙ ap (λ m. picked m xs) half ∙ ih ∙ sym (cond-false (p x) _ _ f))
-    (cases_Bool (p x))
-
--- what is picked of the list past its first block
-past : (x b n : ℕ) (xs : List ℕ) → (x ≡ b → ⊥) → among (picked n (x ∷ xs)) b ≡ among (picked (n / 2) xs) b
-past x b n xs d =
-    ⊎_elim (λ o. ap (λ l. among l b) (picked-odd n x xs o) ∙ among-past x b (picked (n / 2) xs) d)
-    (λ z. ap (λ l. among l b) (picked-even n x xs z)) (cases-bit n)
-
--- whether the first block is picked
-odd-picks : (x n : ℕ) (xs : List ℕ) → n % 2 ≡ 1 → among (picked n (x ∷ xs)) x ≡ true
-odd-picks x n xs o = ap (λ l. among l x) (picked-odd n x xs o) ∙ among-here x x (picked (n / 2) xs) refl
-
-picks-odd : (x n : ℕ) (xs : List ℕ) → among xs x ≡ false → among (picked n (x ∷ xs)) x ≡ true → n % 2 ≡ 1
-picks-odd x n xs a h =
-    ⊎_elim (λ o. o)
-    (λ z. absurd (both_ways (among xs x) a (among-picked xs (n / 2) x (sym (ap (λ l. among l x) (picked-even n x xs z)) ∙ h))))
-    (cases-bit n)
+    let half : number p (x ∷ xs) / 2 ≡ number p xs = grind arith in
+    grind arith
 
 -- two numbers with the same choice are one
 pub one_number : (xs : List ℕ) → Apart xs → (n k : ℕ) → n < 2 ^ length xs → k < 2 ^ length xs → ((b : ℕ) → among xs b ≡ true → among (picked n xs) b ≡ among (picked k xs) b) → n ≡ k
 one_number [] a n k ln lk h = omega arith
 one_number (x ∷ xs) a n k ln lk h =
-    let e = pow-suc 2 (length xs) in
-    let ih = one_number xs a.1 (n / 2) (k / 2) (omega arith) (omega arith)
-    (λ b m. let d : x ≡ b → ⊥ = λ s. both_ways (among xs x) a.0 (ap (among xs) s ∙ m) in
-    sym (past x b n xs d) ∙ h b (or_right (eqb x b) (among xs b) m) ∙ past x b k xs d) in
-    let first = h x (among-here x x xs refl) in
-    let bit : n % 2 ≡ k % 2 =
-    ⊎_elim (λ o. let p = picks-odd x k xs a.0 (sym first ∙ odd-picks x n xs o) in omega arith)
-    (λ z. ⊎_elim (λ o. let p = picks-odd x n xs a.0 (first ∙ odd-picks x k xs o) in omega arith) (λ w. omega arith) (cases-bit k))
-    (cases-bit n) in
-    omega arith
+    let long = pow-suc 2 (length xs) in
+    let halves = one_number xs a.1 (n / 2) (k / 2) (omega arith) (omega arith) (λ b m. let apart : x ≢ b = λ e. both_ways (among xs x) a.0 (ap (among xs) e ∙ m) in let same = h b in grind arith) in
+    let first = h x in
+    let from_n = among-picked xs (n / 2) x in
+    let from_k = among-picked xs (k / 2) x in
+    grind arith

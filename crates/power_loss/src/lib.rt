@@ -1,14 +1,16 @@
 #![tactic(auto)]
 
-ghost use Rattle.std.specs.Prelude.{◌≡◌, ℕ, ◌<◌, true, map, length, IfOk};
+ghost use Rattle.std.specs.Prelude.{◌≡◌, ℕ, ◌<◌, ◌≤◌, true, map, length, Some, IfOk};
 ghost use Rattle.std.specs.List.{range_with_len};
 ghost use Rattle.disk.specs.Meaning.{flies, stands};
+ghost use Rattle.power_loss.specs.Shown.{shown_as};
 ghost use Rattle.power_loss.specs.States.{among, Listed};
 ghost use Rattle.power_loss.specs.Numbered.{airborne, picked};
 ghost use Rattle.power_loss.specs.declared.Unlisted.TheVariants.{Memory};
 
 use disk::{BLOCK, Disk, InFlight};
 use std::alloc::{AllocError, AllocFailed, Global};
+use std::fmt;
 
 // With more blocks in flight than this, their choices are too many to list.
 const MOST: usize = 16;
@@ -29,6 +31,18 @@ pub enum Unlisted {
     TooManyInFlight,
 }
 
+impl fmt::Display for Unlisted {
+    ghost output = { λ why. Some (shown_as why) };
+
+    fn fmt<W: fmt::Write>(&self, f: &mut fmt::Formatter<W>) -> fmt::Result {
+        f.write_str(match self {
+            Unlisted::Memory => "no memory",
+            Unlisted::TooManyInFlight => "too many blocks in flight",
+        })
+    }
+}
+
+// Written out, as the next one is: `?` needs the clause `from_gives`, which a derive leaves out.
 impl From<AllocError> for Unlisted {
     ghost from_gives = { λ _ r. r ≡ Memory };
 
@@ -47,51 +61,34 @@ impl<T: Drop> From<AllocFailed<T>> for Unlisted {
 
 // The blocks in flight, in rising order.
 fn flying_blocks<D: InFlight>(heap: Global, disk: &D) -> Result<Vec<u16>, AllocError>
-    requires { D.Disk.sound disk.now }
     ensures { IfOk result (λ v. v.items ≡ airborne (D.Disk.meaning disk.now)) }
 {
-    let mut flying = Vec::new(heap);
-    for b in 0..disk.blocks() {
-        if disk.flying(b) {
-            flying.push(b)?;
-        }
-    }
-    Ok(flying)
+    (0..disk.blocks()).filter(|b| disk.flying(*b)).collect(heap)
 }
 
 // The choice with this number: bit j says whether the flying block at place j gets written.
 fn choice(heap: Global, flying: &[u16], number: usize) -> Result<Vec<u16>, AllocError>
+    requires { length flying.now ≤ MOST }
     ensures { IfOk result (λ v. v.items ≡ picked number flying.now) }
 {
-    let mut written = Vec::new(heap);
-    let mut rest = number;
-    for b in flying {
-        if rest % 2 == 1 {
-            written.push(*b)?;
-        }
-        rest /= 2;
-    }
-    Ok(written)
-}
-
-// Whether b is among the blocks.
-fn contains(blocks: &[u16], b: u16) -> bool
-    ensures { result ≡ among blocks.now b }
-{
-    blocks.contains(&b)
+    flying
+        .iter()
+        .enumerate()
+        .filter(|(j, _)| (number >> *j) % 2 == 1)
+        .map(|(_, b)| *b)
+        .collect(heap)
 }
 
 // Copies out what stands at block b: its image if it got written, else the medium's block.
+#[tactic(auto, using(crate::proofs::Members::among_any))]
 fn copy_standing<D: InFlight>(disk: &mut D, written: &[u16], b: u16, into: &mut [u8])
-    requires sound { D.Disk.sound disk.old }
     requires whole { length into.old ≡ 256 }
     requires within { b < (D.Disk.meaning disk.old).blocks }
     requires flying { among written.now b ≡ true → flies (D.Disk.meaning disk.old) b ≡ true }
-    ensures keeps { D.Disk.sound disk.new }
     ensures same { D.Disk.meaning disk.new ≡ D.Disk.meaning disk.old }
     ensures copied { into.new ≡ stands (D.Disk.meaning disk.old) (among written.now) b }
 {
-    if contains(written, b) {
+    if written.contains(&b) {
         disk.image(b, into).unwrap();
     } else {
         disk.read(b, into).unwrap();
@@ -99,14 +96,13 @@ fn copy_standing<D: InFlight>(disk: &mut D, written: &[u16], b: u16, into: &mut 
 }
 
 // The state that a loss of supply leaves if just these of the blocks in flight get written.
+// A loop and no chain, as the next one is: each round may change the disk and may fail.
 fn state_with<D: InFlight>(
     heap: Global,
     disk: &mut D,
     written: Vec<u16>,
 ) -> Result<State, AllocError>
-    requires sound { D.Disk.sound disk.old }
-    requires flying { (b : ℕ) → among written.items b ≡ true → flies (D.Disk.meaning disk.old) b ≡ true }
-    ensures keeps { D.Disk.sound disk.new }
+    requires { (b : ℕ) → among written.items b ≡ true → flies (D.Disk.meaning disk.old) b ≡ true }
     ensures same { D.Disk.meaning disk.new ≡ D.Disk.meaning disk.old }
     ensures written { IfOk result (λ s. s.written.items ≡ written.items) }
     ensures blocks { IfOk result (λ s. s.blocks.items ≡ map (stands (D.Disk.meaning disk.old) (among written.items)) (range_with_len 0 (D.Disk.meaning disk.old).blocks)) }
@@ -122,8 +118,6 @@ fn state_with<D: InFlight>(
 
 // Every state that a loss of supply can leave at this moment: each choice of the blocks in flight once.
 pub fn states<D: InFlight>(heap: Global, disk: &mut D) -> Result<Vec<State>, Unlisted>
-    requires { D.Disk.sound disk.old }
-    ensures keeps { D.Disk.sound disk.new }
     ensures same { D.Disk.meaning disk.new ≡ D.Disk.meaning disk.old }
     ensures listed { Listed (D.Disk.meaning disk.old) result }
 {

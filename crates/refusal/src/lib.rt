@@ -2,14 +2,11 @@
 
 ghost use Rattle.std.specs.Prelude.{◌≡◌, Some, Decides};
 ghost use Rattle.refusal.specs.Codes.{code_of, place_of, same_refusal, shown_as, Tells};
-ghost use Rattle.std.specs.Cmp.{partial_equiv_from_equiv};
-ghost use Rattle.std.specs.Cmp.Rules.{comparing};
-ghost use Rattle.std.proofs.Common.{rules};
 
 use std::fmt;
 
 // Why a call is refused. The first twelve are caused by the input, the others by the state.
-#[derive(Clone, Copy, Debug)]
+#[derive(Clone, Copy, PartialEq, Eq, Debug)]
 pub enum Refusal {
     // A block handed over is not 256 bytes, or a disk's bytes or numbers are unfit.
     UnfitBytes,
@@ -60,7 +57,7 @@ pub enum Refusal {
 }
 
 impl Refusal {
-    // The number by which users know the refusal.
+    // The number by which users know the refusal; `as` cannot give it, since one refusal has a field.
     pub fn code(self) -> u8
         ensures value { result ≡ code_of self }
         ensures tells { Tells self result }
@@ -92,7 +89,7 @@ impl Refusal {
         }
     }
 
-    // The place of the misplaced word, and 0 for every other refusal.
+    // The place of the misplaced word; 0 for every other refusal, since each is shown with a place.
     pub fn place(self) -> u16
         ensures { result ≡ place_of self }
     {
@@ -100,6 +97,14 @@ impl Refusal {
             Refusal::MisplacedWord { place } => place,
             _ => 0,
         }
+    }
+
+    // Whether two refusals are the same: as `==` says, which a derive gives without a clause.
+    pub fn is_same(self, other: Refusal) -> bool
+        ensures value { result ≡ same_refusal self other }
+        ensures same { Decides result (self ≡ other) }
+    {
+        self == other
     }
 }
 
@@ -111,21 +116,4 @@ impl fmt::Display for Refusal {
         let place = self.place();
         write!(f, "refused {code} {place}")
     }
-}
-
-impl PartialEq for Refusal {
-    ghost eq = { same_refusal };
-
-    ghost laws = { partial_equiv_from_equiv (Prim.search (comparing, rules)) };
-
-    fn eq(&self, other: &Refusal) -> bool
-        ensures value { result ≡ same_refusal self.now other.now }
-        ensures same { Decides result (self.now ≡ other.now) }
-    {
-        self.code() == other.code() && self.place() == other.place()
-    }
-}
-
-impl Eq for Refusal {
-    ghost laws = { Prim.search (comparing, rules) };
 }

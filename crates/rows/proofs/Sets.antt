@@ -1,9 +1,9 @@
 -- What a write of one mark leaves of a row of marks.
-use Rattle.std.proofs.Common.{◌≡◌, ℕ, ◌+◌, ◌<◌, Bool, true, false, cond, List, length, get_or, set, Some, None, count_by, sym, refl, subst, inl, inr, arith, length-set, get_or-set_other, get_or-set_same}
+use Rattle.std.proofs.Common.{◌≡◌, ℕ, ◌+◌, ◌<◌, Bool, true, false, cond, List, length, get_or, set, Some, None, count_by, position, sym, refl, subst, inl, inr, arith, length-set, get_or-set_other, get_or-set_same}
 use Rattle.std.proofs.lemmas.Bool.{cases_eq}
 use Rattle.std.proofs.lemmas.List.Sums.{sum_by-set}
-use Rattle.rows.specs.Marks.{first_by, AtMostOne}
-use Rattle.rows.proofs.Firsts.{first_by-none, first_by-some}
+use Rattle.rows.specs.Marks.{AtMostOne}
+use Rattle.rows.proofs.Firsts.{position-none, position-some}
 
 pub false-from : (t : Bool) → (t ≡ true → ⊥) → t ≡ false
 false-from true h = absurd (h refl)
@@ -20,8 +20,8 @@ module _ {X : Type 0} where
 
   module _ (p : X → Bool) (xs : List X) (d : X) (one : AtMostOne p xs d) where
     -- an element that passes is the first
-    pub only : (j : ℕ) → j < length xs → p (get_or xs j d) ≡ true → first_by p xs ≡ Some j
-    only j l t = first_by-some p xs d j l t (λ i h. false-from (p (get_or xs i d)) (λ q. omega (arith, one i j (omega arith) l q t)))
+    pub only : (j : ℕ) → j < length xs → p (get_or xs j d) ≡ true → position p xs ≡ Some j
+    only j l t = position-some p xs d j l t (λ i h. false-from (p (get_or xs i d)) (λ q. omega (arith, one i j (omega arith) l q t)))
 
     -- a new element that passes takes the place of the one that did
     pub one_set : (j : ℕ) (v : X) → j < length xs → (p v ≡ true → (i : ℕ) → i < length xs → p (get_or xs i d) ≡ true → i ≡ j) → AtMostOne p (set xs j v) d
@@ -32,16 +32,16 @@ module _ {X : Type 0} where
         (λ _ t. at_set (λ x. p x ≡ true → a ≡ b) xs j v d b l (λ f u. omega (arith, alone u a (omega arith) t)) (λ _ u. one a b (omega arith) (omega arith) t u))
 
     -- where the one that passed is replaced by one that does not, none passes
-    pub none-set : (j : ℕ) (v : X) → j < length xs → p (get_or xs j d) ≡ true → p v ≡ false → first_by p (set xs j v) ≡ None
+    pub none-set : (j : ℕ) (v : X) → j < length xs → p (get_or xs j d) ≡ true → p v ≡ false → position p (set xs j v) ≡ None
     none-set j v l t f =
         let len = length-set xs j v in
-        first_by-none p (set xs j v) d (λ i h. at_set (λ x. p x ≡ false) xs j v d i l (λ _. f) (λ n. false-from (p (get_or xs i d)) (λ q. n (one i j (omega arith) l q t))))
+        position-none p (set xs j v) d (λ i h. at_set (λ x. p x ≡ false) xs j v d i l (λ _. f) (λ n. false-from (p (get_or xs i d)) (λ q. n (one i j (omega arith) l q t))))
 
   -- a new element that passes where none did is the first, and the only one
-  pub first-set : (p : X → Bool) (xs : List X) (d : X) (j : ℕ) (v : X) → j < length xs → ((i : ℕ) → i < length xs → (i ≡ j → ⊥) → p (get_or xs i d) ≡ false) → p v ≡ true → first_by p (set xs j v) ≡ Some j
+  pub first-set : (p : X → Bool) (xs : List X) (d : X) (j : ℕ) (v : X) → j < length xs → ((i : ℕ) → i < length xs → (i ≡ j → ⊥) → p (get_or xs i d) ≡ false) → p v ≡ true → position p (set xs j v) ≡ Some j
   first-set p xs d j v l others t =
       let len = length-set xs j v in
-      first_by-some p (set xs j v) d j (omega arith) (subst (λ (x : X). p x ≡ true) (sym (get_or-set_same xs j v d l)) t)
+      position-some p (set xs j v) d j (omega arith) (subst (λ (x : X). p x ≡ true) (sym (get_or-set_same xs j v d l)) t)
       (λ i h. let n : i ≡ j → ⊥ = λ e. omega arith in subst (λ (x : X). p x ≡ false) (sym (get_or-set_other xs j i v d n)) (others i (omega arith) n))
 
   -- what a write of one element does to a count

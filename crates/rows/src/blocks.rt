@@ -1,7 +1,8 @@
-ghost use Rattle.std.specs.Prelude.{◌≡◌, true, false, Decides};
-ghost use Rattle.rows.specs.Blocks.{Has, Whole, block, put_block};
+ghost use Rattle.std.specs.Prelude.{◌≡◌, Decides};
+ghost use Rattle.rows.specs.Blocks.{Has, Whole, block, put_block, FitsRule, GetRule, PutRule, MoveRule};
 
-use disk::BLOCK;
+use disk::{BLOCK, check_bytes};
+use refusal::Refusal;
 
 // Whether a row has block i.
 fn has(row: &[u8], i: usize) -> bool
@@ -10,11 +11,16 @@ fn has(row: &[u8], i: usize) -> bool
     i < row.len() / BLOCK
 }
 
-// Whether a row has block i, and an image is one block.
-fn fits(row: &[u8], i: usize, image: &[u8]) -> bool
-    ensures { Decides result (Has i row.now × Whole image.now) }
+// Refuses an image that is not one block, and a row that does not have block i.
+fn check(row: &[u8], i: usize, image: &[u8]) -> Result<(), Refusal>
+    ensures { FitsRule row.now i image.now result }
 {
-    has(row, i) && image.len() == BLOCK
+    check_bytes(image)?;
+    if has(row, i) {
+        Ok(())
+    } else {
+        Err(Refusal::NoSuchBlock)
+    }
 }
 
 // Copies out block i of a row that has it.
@@ -33,40 +39,33 @@ fn copy_in(row: &mut [u8], i: usize, image: &[u8])
     row[BLOCK * i..BLOCK * i + BLOCK].copy_from_slice(image);
 }
 
-// Copies out block i of a row; false, and nothing copied, where there is no such block or the target is not one block.
-pub fn get_block(row: &[u8], i: usize, into: &mut [u8]) -> bool
-    ensures done { Has i row.now × Whole into.old → (result ≡ true) × (into.new ≡ block i row.now) }
-    ensures undone { (Has i row.now × Whole into.old → ⊥) → (result ≡ false) × (into.new ≡ into.old) }
+// Copies out block i of a row.
+pub fn get_block(row: &[u8], i: usize, into: &mut [u8]) -> Result<(), Refusal>
+    ensures { GetRule row.now i into.old into.new result }
 {
-    if !fits(row, i, into) {
-        return false;
-    }
+    check(row, i, into)?;
     copy_out(row, i, into);
-    true
+    Ok(())
 }
 
-// Writes an image over block i of a row; false, and nothing written, where there is no such block or the image is not one block.
-pub fn put_block(row: &mut [u8], i: usize, image: &[u8]) -> bool
-    ensures done { Has i row.old × Whole image.now → (result ≡ true) × (row.new ≡ put_block i image.now row.old) }
-    ensures undone { (Has i row.old × Whole image.now → ⊥) → (result ≡ false) × (row.new ≡ row.old) }
+// Writes an image over block i of a row.
+pub fn put_block(row: &mut [u8], i: usize, image: &[u8]) -> Result<(), Refusal>
+    ensures { PutRule row.old i image.now row.new result }
 {
-    if !fits(row, i, image) {
-        return false;
-    }
+    check(row, i, image)?;
     copy_in(row, i, image);
-    true
+    Ok(())
 }
 
-// Copies one block of a row over another; false, and nothing copied, where the row lacks one of them.
-pub fn move_block(row: &mut [u8], from: usize, to: usize) -> bool
-    ensures done { Has from row.old × Has to row.old → (result ≡ true) × (row.new ≡ put_block to (block from row.old) row.old) }
-    ensures undone { (Has from row.old × Has to row.old → ⊥) → (result ≡ false) × (row.new ≡ row.old) }
+// Copies one block of a row over another.
+pub fn move_block(row: &mut [u8], from: usize, to: usize) -> Result<(), Refusal>
+    ensures { MoveRule row.old from to row.new result }
 {
     if !has(row, from) || !has(row, to) {
-        return false;
+        return Err(Refusal::NoSuchBlock);
     }
-    let mut image = [0u8; BLOCK];
+    let mut image = [0; BLOCK];
     copy_out(row, from, &mut image);
     copy_in(row, to, &image);
-    true
+    Ok(())
 }

@@ -1,27 +1,19 @@
-use Rattle.std.proofs.Common.{◌≡◌, ◌+◌, ◌/◌, ◌%◌, [], ◌∷◌, ◌++◌, get_or, drop, vec_items, refl, ap, ◌∙◌, arith}
-use Rattle.std.proofs.lemmas.Slice.{pushed}
-use Rattle.power_loss.specs.Numbered.{picked}
-use Rattle.power_loss.proofs.Picks.{pick_more, skip-more, pick_all}
+use Rattle.std.proofs.Common.{◌≡◌, ◌==◌, ◌%◌, ◌/◌, ◌^◌, IfOk, vec_items, sym, subst, rules}
+use Rattle.std.proofs.lemmas.Iterator.{YieldsList-from_slice, YieldsList-from_map, items_from_collect}
+use Rattle.std.proofs.lemmas.Iterator.Consumers.{YieldsList-at, YieldsList-from_enumerate, YieldsList-from_filter}
+use borrow.Author.Tests.{tests}
+use Rattle.power_loss.proofs.Picks.{picked-places}
 use Rattle.power_loss.proofs.choice.Goals as goal
-use Rattle.power_loss.proofs.choice.Goals.{then-rest-eq1+in_ok-push, else-rest-eq1}
-
-pub loop-b-preserved : goal.loop-b-preserved
-loop-b-preserved c =
-    let n = c.loop-b.rest in
-    let i = c.loop-b.b-index in
-    let fl = c.args.flying.now in
-    let ws = vec_items c.loop-b.written in
-    let left = picked (n / 2) (drop (i + 1) fl) in
-    elim c.if-rest-eq1.branch [
-      | then-rest-eq1+in_ok-push w ↦
-          ap (λ v. vec_items v ++ left) w.written-is
-          ∙ ap (λ l. l ++ left) (pushed (get_or fl i 0 ∷ []) refl w.in_ok-push.was w.push.ensures.items)
-          ∙ pick_more ws fl n i (omega arith) w.if-rest-eq1.true
-          ∙ c.loop-b.invariant
-      | else-rest-eq1 w ↦
-          let even : n % 2 ≡ 0 = omega (arith, w.if-rest-eq1.false) in
-          ap (λ v. vec_items v ++ left) w.written-is ∙ skip-more ws fl n i (omega arith) even ∙ c.loop-b.invariant
-    ]
 
 pub returns : goal.returns
-returns c = pick_all _ c.args.flying.now c.loop-b.rest c.loop-b.b-index c.loop-b-test.false ∙ c.loop-b.invariant
+returns c =
+    let n = c.args.number in
+    let fl = c.args.flying.now in
+    subst (λ l. IfOk c.collect.result (λ v. vec_items v ≡ l)) (sym (picked-places n fl))
+    (items_from_collect c.collect.result c.collect.ensures.ran
+    (YieldsList-from_map _ (λ p. p.1)
+    (YieldsList-at c.map.ensures.source
+    (YieldsList-from_filter _ (λ p. n / 2 ^ p.0 % 2 == 1)
+    (YieldsList-at c.filter.ensures.source (YieldsList-from_enumerate (YieldsList-from_slice fl cc) c.enumerate.ensures.count))
+    c.filter.ensures.closure (λ x r q k. search (rules, tests))))
+    c.map.ensures.closure (λ x r q k. search (rules, tests))))

@@ -1,48 +1,40 @@
-use Rattle.std.proofs.Common.{◌≡◌, is_some, None, sym, refl, ap, ◌∙◌, arith, rules}
+use Rattle.std.proofs.Common.{◌≡◌, is_some, Some, None, refl, ap, ◌∙◌, arith, rules}
 use Rattle.rows.proofs.Options.{none_from}
 use Rattle.plain_disk.specs.declared.places.Slot.TheVariants.{Free, Holding}
 use Rattle.plain_disk.specs.Slots.{place}
-use Rattle.plain_disk.specs.Plain.{PlainStart}
 use Rattle.plain_disk.specs.Laws.{there-at, place-fits, flies-plain}
-use Rattle.plain_disk.proofs.Turns.{open-while, found-slot, lower-slots, started}
+use Rattle.plain_disk.proofs.Turns.{open-while, started}
 use Rattle.plain_disk.proofs.plain.PlainDisk.start.Goals as goal
 
-pub returns-in_default : goal.returns-in_default
-returns-in_default c =
+pub returns-in_err-j-clause-rule : goal.returns-in_err-j-clause-rule
+returns-in_err-j-clause-rule c =
     let x = c.args.self.now in
-    let none = sym c.free_place.ensures ∙ c.in_default.is in
+    let none : place Free x.places.slots ≡ None = search rules in
     let idle : place (Holding c.args.b) x.places.slots ≡ None = none_from _ (search rules) in
+    let flies = flies-plain x.bytes.now x.places x.sound c.args.b ∙ ap is_some idle in
+    let opens = open-while x.bytes.now x.places c.args.b x.sound idle (omega arith) ∙ ap is_some none in
+    search rules
+
+pub take-requires-clause-within : goal.take-requires-clause-within
+take-requires-clause-within c =
+    let x = c.args.self.now in
+    let lowest : place Free x.places.slots ≡ Some c.in_ok-j.j = search rules in
+    place-fits x.bytes.now x.places x.sound c.args.b c.in_ok-j.j (omega arith) (there-at x.bytes.now x.places x.sound Free c.in_ok-j.j refl lowest)
+
+pub invariant_of-self : goal.invariant_of-self
+invariant_of-self c =
+    let x = c.args.self.now in
     record {
-      keeps = c.requires;
-      rule = (refl, (omega arith, omega arith, flies-plain x.bytes.now x.places c.requires c.args.b ∙ ap is_some idle, open-while x.bytes.now x.places c.args.b c.requires idle (omega arith) ∙ ap is_some none));
-      same = refl;
-      starts = tt;
+      sound = (started x.bytes.now x.places x.sound c.args.b c.in_ok-j.j c.args.image.now c.take.new.bytes c.take.new.places (none_from _ (search rules)) (search rules) (search rules) (search rules) c.take.ensures.bytes c.take.ensures.places).keeps;
     }
 
-pub take-requires : goal.take-requires
-take-requires c =
+pub returns-clause-rule : goal.returns-clause-rule
+returns-clause-rule c =
     let x = c.args.self.now in
-    let lowest = sym c.free_place.ensures ∙ c.in-Some.is in
-    let here = there-at x.bytes.now x.places c.requires Free c.in-Some.j refl lowest in
-    record {
-      within = place-fits x.bytes.now x.places c.requires c.args.b c.in-Some.j (omega arith) here;
-      whole = omega arith;
-      place = (c.requires.eight, omega (arith, here, c.requires.most));
-    }
+    let s = started x.bytes.now x.places x.sound c.args.b c.in_ok-j.j c.args.image.now c.take.new.bytes c.take.new.places (none_from _ (search rules)) (search rules) (search rules) (search rules) c.take.ensures.bytes c.take.ensures.places in
+    (search rules, s.opens, s.effect)
 
-pub returns : goal.returns
-returns c =
+pub returns-clause-starts : goal.returns-clause-starts
+returns-clause-starts c =
     let x = c.args.self.now in
-    let y = c.take.new.self in
-    let b = c.args.b in
-    let image = c.args.image.now in
-    let lowest = sym c.free_place.ensures ∙ c.in-Some.is in
-    let idle : place (Holding b) x.places.slots ≡ None = none_from _ (search rules) in
-    let st : PlainStart x.bytes.now x.places b image y.bytes.now y.places = record { at = c.in-Some.j; found = lowest; free = found-slot Free x.places.slots c.in-Some.j lowest; lowest = lower-slots Free x.places.slots c.in-Some.j refl lowest; bytes = c.take.ensures.bytes; places = c.take.ensures.places } in
-    let r = started x.bytes.now x.places b image y.bytes.now y.places c.requires idle (omega arith) (omega arith) st in
-    record {
-      keeps = r.0;
-      rule = (omega arith, open-while x.bytes.now x.places b c.requires idle (omega arith) ∙ ap is_some lowest, r.1);
-      same = tt;
-      starts = st;
-    }
+    (started x.bytes.now x.places x.sound c.args.b c.in_ok-j.j c.args.image.now c.take.new.bytes c.take.new.places (none_from _ (search rules)) (search rules) (search rules) (search rules) c.take.ensures.bytes c.take.ensures.places).starts

@@ -1,3 +1,0 @@
-mod Fresh
-mod Puts
-mod Turns

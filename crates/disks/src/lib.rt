@@ -1,7 +1,0 @@
-#![tactic(auto)]
-
-mod places;
-mod plain;
-mod rows;
-
-pub use plain::Plain;
