@@ -28,15 +28,17 @@ pub record Sound (n layer : ℕ) (flight : Option (ℕ × List ℕ)) : Type 0 wh
   pub below : (f : ℕ × List ℕ) → flight ≡ Some f → f.0 < n
 
 -- what is in flight is the block in flight, and its image
-flying-at : (f : ℕ × List ℕ) (b : ℕ) → is_some (in_flight (Some f) b) ≡ true → f.0 ≡ b
-flying-at f b e = at (f.0 == b) refl e
+flying-at : (flight : Option (ℕ × List ℕ)) (b : ℕ) → is_some (in_flight flight b) ≡ true → (f : ℕ × List ℕ) × (flight ≡ Some f) × (f.0 ≡ b)
+flying-at None b e = absurd (both_ways false refl e)
+flying-at (Some f) b e = (f, refl, at (f.0 == b) refl e)
   where
     at : (t : Bool) → (f.0 == b) ≡ t → is_some (cond t (Some f.1) None) ≡ true → f.0 ≡ b
     at true q e = eqb-true f.0 b q
     at false q e = absurd (both_ways false refl e)
 
-image-at : (f : ℕ × List ℕ) (shown : List ℕ) (b : ℕ) → in_flight (Some f) b ≡ Some shown → shown ≡ f.1
-image-at f shown b e = at (f.0 == b) e
+image-at : (flight : Option (ℕ × List ℕ)) (shown : List ℕ) (b : ℕ) → in_flight flight b ≡ Some shown → (f : ℕ × List ℕ) × (flight ≡ Some f) × (shown ≡ f.1)
+image-at None shown b e = let z : ◌≡◌ {A = ℕ} 0 1 = cc in absurd (omega arith)
+image-at (Some f) shown b e = (f, refl, at (f.0 == b) e)
   where
     at : (t : Bool) → cond t (Some f.1) None ≡ Some shown → shown ≡ f.1
     at true e = cc
@@ -54,17 +56,9 @@ pub lawful-faulty : (n layer : ℕ) (flight : Option (ℕ × List ℕ)) → Soun
 lawful-faulty n layer flight s = record {
   few_blocks = s.few;
   whole_block = λ b l. length-replicate {A = ℕ} 256 0;
-  whole_image = λ b shown e. whole flight s b shown e;
-  flying_below = λ b e. below flight s b e;
+  whole_image = λ b shown e. let i = image-at flight shown b e in ap length i.2 ∙ s.whole i.0 i.1;
+  flying_below = λ b e. let i = flying-at flight b e in omega (arith, i.2, s.below i.0 i.1);
   open_below = λ b e. ltb-true b n (and_parts _ _ e).0;
   open_grounded = λ b e. grounded flight b (not-true _ (and_parts _ _ e).1);
   idle_open = λ still _ b l. and_from _ _ (lt-ltb b n l) (not_from_false _ (idle n layer flight s still));
 }
-  where
-    whole : (o : Option (ℕ × List ℕ)) → Sound n layer o → (b : ℕ) (shown : List ℕ) → in_flight o b ≡ Some shown → length shown ≡ 256
-    whole None s b shown e = let z : ◌≡◌ {A = ℕ} 0 1 = cc in absurd (omega arith)
-    whole (Some f) s b shown e = ap length (image-at f shown b e) ∙ s.whole f refl
-
-    below : (o : Option (ℕ × List ℕ)) → Sound n layer o → (b : ℕ) → is_some (in_flight o b) ≡ true → b < n
-    below None s b e = absurd (both_ways false refl e)
-    below (Some f) s b e = let q = flying-at f b e in omega (arith, q, s.below f refl)

@@ -4,7 +4,7 @@
 use disk::{BLOCK, InFlight};
 use plain_disk::Plain;
 use power_loss::{State, states};
-use std::io;
+use std::{fmt, io};
 
 const BLOCKS: u16 = 4;
 
@@ -35,32 +35,25 @@ const STEPS: [Step; 11] = [
     Step::List,
 ];
 
-// Prints the numbers of the blocks that got written, or "-".
-fn show_written(rt: &HostRuntime, written: &[u16]) -> io::Result<()> {
-    if written.is_empty() {
-        print!(rt; " -")?;
-    }
-    for b in written {
-        print!(rt; " {b}")?;
-    }
-    Ok(())
-}
+// A state as it is shown: which blocks got written, or "-", then the first bytes of each block.
+#[derive(Drop)]
+struct Shown<'a>(&'a State);
 
-// Prints the first bytes of each block.
-fn show_blocks(rt: &HostRuntime, blocks: &[[u8; BLOCK]]) -> io::Result<()> {
-    for [a, b, c, d, ..] in blocks {
-        print!(rt; " {a:02x}{b:02x}{c:02x}{d:02x}")?;
+impl fmt::Display for Shown<'_> {
+    fn fmt<W: fmt::Write>(&self, f: &mut fmt::Formatter<W>) -> fmt::Result {
+        f.write_str("written")?;
+        if self.0.written.is_empty() {
+            f.write_str(" -")?;
+        }
+        for b in &self.0.written {
+            write!(f, " {b}")?;
+        }
+        f.write_str(" |")?;
+        for [a, b, c, d, ..] in &self.0.blocks {
+            write!(f, " {a:02x}{b:02x}{c:02x}{d:02x}")?;
+        }
+        Ok(())
     }
-    Ok(())
-}
-
-// Prints which blocks got written, then how each block stands.
-fn show(rt: &HostRuntime, state: &State) -> io::Result<()> {
-    print!(rt; "  written")?;
-    show_written(rt, &state.written)?;
-    print!(rt; " |")?;
-    show_blocks(rt, &state.blocks)?;
-    println!(rt; "")
 }
 
 // A disk on which steps are taken and their answers printed.
@@ -93,7 +86,7 @@ impl<D: InFlight + Drop> Scene<'_, D> {
             Ok(all) => {
                 println!(self.rt; "a loss of supply now leaves one of:")?;
                 for state in &all {
-                    show(self.rt, state)?;
+                    println!(self.rt; "  {}", Shown(state))?;
                 }
                 Ok(())
             }

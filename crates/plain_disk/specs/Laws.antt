@@ -1,6 +1,7 @@
 -- Why the laws of every disk hold of a plain disk under its condition.
-use Rattle.std.specs.Prelude.{◌≡◌, ℕ, zero, suc, ◌+◌, ◌<◌, ◌≤◌, true, false, cond, ltb, List, [], ◌∷◌, length, is_some, Some, None, position, nat_lt, slice_index_or, refl}
+use Rattle.std.specs.Prelude.{◌≡◌, ℕ, zero, suc, ◌+◌, ◌<◌, ◌≤◌, true, false, cond, ltb, List, [], ◌∷◌, length, is_some, Some, None, Option, position, nat_lt, slice_index_or, refl}
 use Rattle.std.proofs.Common.{sym, ap, ◌∙◌, ⊎_elim, arith, rules}
+use Rattle.std.specs.Option.{option_map}
 use Rattle.std.proofs.lemmas.Bool.{both_ways, cond-false, eqb-true, eq-eqb, cases_lt, lt-ltb, le-ltb, ltb-true, and_parts, and_from, not-true, not_from_false}
 use Rattle.std.proofs.lemmas.List.Sums.{sum_by-cons}
 use Rattle.std.proofs.lemmas.List.Quantifiers.{position-Some}
@@ -98,13 +99,19 @@ module _ (bytes : List ℕ) (p : Places) (s : Sound bytes p) where
   pub still-idle : Still (plain bytes p) → flights p.slots ≡ 0
   still-idle still = count_none busy p.slots (still-none still)
 
+  flying_below : (b : ℕ) (o : Option ℕ) → place (Holding b) p.slots ≡ o → is_some o ≡ true → b < p.blocks
+  flying_below b o e t = some-from (b < p.blocks) o t (λ j q. held_below b j (e ∙ q))
+
+  whole_image : (b : ℕ) (image : List ℕ) (o : Option ℕ) → place (Holding b) p.slots ≡ o → option_map (λ j. block (p.blocks + j) bytes) o ≡ Some image → length image ≡ 256
+  whole_image b image o e q = mapped_at (Whole image) (λ j. block (p.blocks + j) bytes) o image q
+      (λ j r w. ap length (sym w) ∙ length-block (p.blocks + j) bytes (place-fits b j (held_below b j (e ∙ r)) (there-at (Holding b) j refl (e ∙ r))))
+
   pub lawful-plain : Lawful (plain bytes p)
   lawful-plain = record {
     few_blocks = s.few;
     whole_block = λ b l. length-block b bytes (omega (arith, s.long (omega arith), s.some));
-    whole_image = λ b image e. mapped_at (Whole image) (λ j. block (p.blocks + j) bytes) (place (Holding b) p.slots) image e
-        (λ j q w. ap length (sym w) ∙ length-block (p.blocks + j) bytes (place-fits b j (held_below b j q) (there-at (Holding b) j refl q)));
-    flying_below = λ b e. some-from (b < p.blocks) (place (Holding b) p.slots) (sym (flies-plain b) ∙ e) (held_below b);
+    whole_image = λ b image e. whole_image b image (place (Holding b) p.slots) refl e;
+    flying_below = λ b e. flying_below b (place (Holding b) p.slots) refl (sym (flies-plain b) ∙ e);
     open_below = λ b e. ltb-true b p.blocks (and_parts _ _ e).0;
     open_grounded = λ b e. flies-plain b ∙ not-true _ (and_parts _ _ (and_parts _ _ e).1).0;
     idle_open = λ still _ b l. and_from _ _ (lt-ltb b p.blocks l) (and_from _ _ (not_from_false _ (sym (flies-plain b) ∙ still b l)) (lt-ltb _ _ (omega (arith, still-idle still, s.some))));

@@ -1,4 +1,4 @@
-ghost use Rattle.std.specs.Prelude.{◌≡◌, ◌+◌, ◌<◌, ◌==◌, length, nat_lt};
+ghost use Rattle.std.specs.Prelude.{◌≡◌, ◌+◌, ◌^◌, ◌<◌, ◌==◌, nat_lt};
 ghost use Rattle.plain_disk.specs.declared.places.Slot.TheVariants.{Free, Holding};
 ghost use Rattle.plain_disk.specs.Slots.{same_slot, busy, place, flights, fresh_slot};
 ghost use Rattle.plain_disk.specs.Places.{fresh, put_slot};
@@ -93,17 +93,18 @@ impl Places {
 
     // Where place j lies among the blocks of the bytes.
     pub fn row_of(&self, j: usize) -> usize
-        requires { j < 8 }
+        requires { self.now.blocks + j < 2 ^ 64 }
         ensures { result ≡ self.now.blocks + j }
     {
         self.blocks as usize + j
     }
 
-    // Puts a slot at place j.
+    // Puts a slot at place j, where there is one.
     pub fn put(&mut self, j: usize, slot: Slot)
-        requires { j < 8 }
         ensures { self.new ≡ put_slot j slot self.old }
     {
-        self.slots[j] = slot;
+        if j < MOST_PLACES {
+            self.slots[j] = slot;
+        }
     }
 }

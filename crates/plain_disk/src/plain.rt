@@ -75,7 +75,7 @@ impl Plain<'_> {
 
     // Copies out the image in place j.
     fn show(&self, j: usize, into: &mut [u8]) -> Result<(), Refusal>
-        requires { j < 8 }
+        requires { Has (self.now.places.blocks + j) self.now.bytes.now }
         ensures { GetRule self.now.bytes.now (self.now.places.blocks + j) into.old into.new result }
     {
         self.copy_out(self.places.row_of(j), into)
@@ -100,7 +100,6 @@ impl Plain<'_> {
 fn take(bytes: &mut [u8], places: &mut Places, j: usize, b: u16, image: &[u8])
     requires within { Has (places.old.blocks + j) bytes.old }
     requires whole { Whole image.now }
-    requires place { j < 8 }
     ensures bytes { bytes.new ≡ put_block (places.old.blocks + j) image.now bytes.old }
     ensures places { places.new ≡ put_slot j (Holding b) places.old }
 {
@@ -112,7 +111,6 @@ fn take(bytes: &mut [u8], places: &mut Places, j: usize, b: u16, image: &[u8])
 fn land(bytes: &mut [u8], places: &mut Places, j: usize, b: u16)
     requires source { Has (places.old.blocks + j) bytes.old }
     requires target { Has b bytes.old }
-    requires place { j < 8 }
     ensures bytes { bytes.new ≡ put_block b (block (places.old.blocks + j) bytes.old) bytes.old }
     ensures places { places.new ≡ put_slot j Free places.old }
 {

@@ -1,6 +1,7 @@
 -- Which blocks are among those of a list.
-use Rattle.std.proofs.Common.{◌≡◌, ℕ, zero, suc, ◌+◌, ◌<◌, ◌≤◌, Bool, true, false, ◌&&◌, eqb, List, [], ◌∷◌, filter, refl, arith}
+use Rattle.std.proofs.Common.{◌≡◌, ℕ, zero, suc, ◌+◌, ◌<◌, ◌≤◌, Bool, true, false, cond, ◌&&◌, eqb, List, [], ◌∷◌, ◌++◌, filter, sym, refl, map-id, arith}
 use Rattle.std.specs.List.{range_with_len, list_any}
+use Rattle.std.proofs.lemmas.List.FromFn.{filter_of_map_range_with_len_more}
 use Rattle.std.proofs.lemmas.Bool.{eqb-true}
 use Rattle.power_loss.specs.States.{among}
 
@@ -11,6 +12,10 @@ among-kept-by p (x ∷ xs) b =
     let ih = among-kept-by p xs b in
     let e = eqb-true x b in
     grind arith
+
+-- one more block is looked at
+pub kept_more : (p : ℕ → Bool) (n : ℕ) → filter p (range_with_len 0 (n + 1)) ≡ filter p (range_with_len 0 n) ++ cond (p n) (n ∷ []) []
+kept_more p n = simp map-id at (filter_of_map_range_with_len_more {X = ℕ} p (λ x. x) 0 n n (omega arith))
 
 -- the blocks from a on
 pub among-counting : (a n b : ℕ) → a ≤ b → b < a + n → among (range_with_len a n) b ≡ true
@@ -40,3 +45,6 @@ apart-kept p a (suc n) =
 pub among_any : (xs : List ℕ) (b : ℕ) → among xs b ≡ list_any (λ y. eqb y b) xs
 among_any [] b = refl
 among_any (x ∷ xs) b = let ih = among_any xs b in grind arith
+
+pub contains-among : (xs : List ℕ) (b : ℕ) → list_any (λ y. eqb y b) xs ≡ among xs b
+contains-among xs b = sym (among_any xs b)

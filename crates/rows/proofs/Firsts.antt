@@ -1,5 +1,5 @@
 -- Where the first element that passes is.
-use Rattle.std.proofs.Common.{◌≡◌, ℕ, zero, suc, ◌<◌, ◌≤◌, Bool, true, false, cond, ltb, List, [], ◌∷◌, length, get_or, set, is_some, Some, None, count_by, position, Option, sym, refl, ap, ◌∙◌, subst, ⊎_elim, arith, length-set}
+use Rattle.std.proofs.Common.{◌≡◌, ℕ, zero, suc, ◌<◌, ◌≤◌, Bool, true, false, cond, ltb, List, [], ◌∷◌, length, get_or, set, take, is_some, Some, None, count_by, position, Option, sym, refl, ap, ◌∙◌, ⊎_elim, arith, length-set}
 use Rattle.std.specs.List.{position_or_len}
 use Rattle.std.specs.Option.{option_map}
 use Rattle.std.proofs.lemmas.Bool.{both_ways, cases_lt, cond-true, cond-false, lt-ltb, le-ltb}
@@ -38,25 +38,52 @@ module _ {X : Type 0} (p : X → Bool) where
       (λ q. fails_before_first p xs j d (omega arith))
       (cases_lt (position_or_len p xs) (length xs))
 
+  -- what the index says of the list
+  abbrev pub FirstAt : List X → X → Option ℕ → Type 0
+  FirstAt xs d None = (j : ℕ) → j < length xs → p (get_or xs j d) ≡ false
+  FirstAt xs d (Some j) = (j < length xs) × (p (get_or xs j d) ≡ true) × ((i : ℕ) → i < j → p (get_or xs i d) ≡ false)
+
+  pub position-at : (xs : List X) (d : X) → FirstAt xs d (position p xs)
+  position-at xs d = by (position p xs) refl
+    where
+      by : (o : Option ℕ) → position p xs ≡ o → FirstAt xs d o
+      by None e = missing xs d e
+      by (Some j) e = position-Some p xs j d e
+
+  -- and what says so is the index
+  pub position-is : (xs : List X) (d : X) (o : Option ℕ) → FirstAt xs d o → position p xs ≡ o
+  position-is xs d None h = position-none xs d h
+  position-is xs d (Some j) h = position-some xs d j h.0 h.1 h.2
+
+  pub step : (x : X) (xs : List X) (d : X) (t : Bool) (o : Option ℕ) → p x ≡ t → FirstAt xs d o → FirstAt (x ∷ xs) d (cond t (Some 0) (option_map suc o))
+  step x xs d true o e h = (omega arith, e, λ i l. absurd (omega arith))
+  step x xs d false None e h = below
+    where
+      below : (j : ℕ) → j < length (x ∷ xs) → p (get_or (x ∷ xs) j d) ≡ false
+      below zero l = e
+      below (suc j) l = h j (omega arith)
+  step x xs d false (Some j) e h = (omega arith, h.1, before)
+    where
+      before : (i : ℕ) → i < suc j → p (get_or (x ∷ xs) i d) ≡ false
+      before zero l = e
+      before (suc i) l = h.2 i (omega arith)
+
   -- the index in a list with one more element in front
   pub position-cons : (x : X) (xs : List X) → position p (x ∷ xs) ≡ cond (p x) (Some 0) (option_map suc (position p xs))
-  position-cons x xs = by (p x) refl
-    where
-      next : p x ≡ false → (o : Option ℕ) → position p xs ≡ o → position p (x ∷ xs) ≡ option_map suc o
-      next f None e = position-none (x ∷ xs) x (λ j l. each j l)
-        where
-          each : (j : ℕ) → j < length (x ∷ xs) → p (get_or (x ∷ xs) j x) ≡ false
-          each zero l = f
-          each (suc j) l = missing xs x e j (omega arith)
-      next f (Some k) e = let s = position-Some p xs k x e in position-some (x ∷ xs) x (suc k) (omega (arith, s.0)) s.1 (λ i l. each s.2 i l)
-        where
-          each : ((i : ℕ) → i < k → p (get_or xs i x) ≡ false) → (i : ℕ) → i < suc k → p (get_or (x ∷ xs) i x) ≡ false
-          each h zero l = f
-          each h (suc i) l = h i (omega arith)
+  position-cons x xs = position-is (x ∷ xs) x _ (step x xs x (p x) (position p xs) refl (position-at xs x))
 
-      by : (t : Bool) → p x ≡ t → position p (x ∷ xs) ≡ cond t (Some 0) (option_map suc (position p xs))
-      by true e = position-some (x ∷ xs) x 0 (omega arith) e (λ i l. absurd (omega arith))
-      by false e = next e (position p xs) refl
+  -- where the first i elements fail and the next one fails, so do the first i + 1
+  pub first_past : (xs : List X) (d : X) (i : ℕ) → i < length xs → position p (take i xs) ≡ None → p (get_or xs i d) ≡ false → position p (take (suc i) xs) ≡ None
+  first_past [] d i l e t = absurd (omega arith)
+  first_past (x ∷ xs) d zero l e t = position-none (x ∷ []) d each
+    where
+      each : (j : ℕ) → j < 1 → p (get_or (x ∷ []) j d) ≡ false
+      each zero h = t
+      each (suc j) h = absurd (omega arith)
+  first_past (x ∷ xs) d (suc i) l e t =
+      let first = missing (x ∷ take i xs) d e 0 (omega arith) in
+      let rest = first_past xs d i (omega arith) (position-none (take i xs) d (λ j h. missing (x ∷ take i xs) d e (suc j) (omega arith))) t in
+      position-cons x (take (suc i) xs) ∙ cond-false (p x) _ _ first ∙ ap (option_map suc) rest
 
   -- where none passes the count is 0
   pub count_none : (xs : List X) → position p xs ≡ None → count_by p xs ≡ 0

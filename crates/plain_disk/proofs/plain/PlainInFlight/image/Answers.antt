@@ -4,6 +4,11 @@ use Rattle.plain_disk.specs.Slots.{place}
 use Rattle.plain_disk.proofs.Turns.{source_fits}
 use Rattle.plain_disk.proofs.plain.PlainInFlight.image.Goals as goal
 
+pub show-requires : goal.show-requires
+show-requires c =
+    let x = c.args.self.now in
+    source_fits x.bytes.now x.places x.sound c.args.b c.in_ok-j.j (search rules)
+
 pub returns : goal.returns
 returns c =
     let x = c.args.self.now in
