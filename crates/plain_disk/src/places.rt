@@ -37,6 +37,7 @@ fn fresh_slot(i: usize, count: u8) -> Slot
 }
 
 // The blocks of a plain disk, and its places: as many as the count, the others absent.
+// An array with a count and no Vec: the making of a disk over lent bytes cannot fail, so it asks for no memory.
 #[derive(Drop)]
 pub struct Places {
     pub blocks: u16,

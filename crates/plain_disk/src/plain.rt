@@ -66,7 +66,7 @@ impl<'a> Plain<'a> {
 }
 
 impl Plain<'_> {
-    // Copies out block i of the bytes.
+    // Copies out block i of the bytes. The page disk has its own: one for both would need a trait for what has bytes.
     fn copy_out(&self, i: usize, into: &mut [u8]) -> Result<(), Refusal>
         ensures { GetRule self.now.bytes.now i into.old into.new result }
     {
