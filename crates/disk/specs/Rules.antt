@@ -50,7 +50,7 @@ abbrev pub Refused : {X : Type 0} → Type 0 → Result X Refusal → Type 0
 Refused holds (Ok x) = Unit {0}
 Refused holds (Err e) = holds
 
--- the check of a disk over lent bytes refuses just what does not fit
+-- a check refuses just what does not fit, as unfit
 abbrev pub CheckRule : Type 0 → Result (Unit {0}) Refusal → Type 0
 CheckRule fits (Ok x) = fits
 CheckRule fits (Err e) = (e ≡ UnfitBytes) × (fits → ⊥)

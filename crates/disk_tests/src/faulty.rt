@@ -58,7 +58,7 @@ impl Disk for Faulty {
     fn read(&mut self, b: u16, into: &mut [u8]) -> Result<(), Refusal> {
         check_bytes(into)?;
         check_block(b, self.blocks)?;
-        into.copy_from_slice(&[0; BLOCK]);
+        into.fill(0);
         Ok(())
     }
 
@@ -94,12 +94,12 @@ impl InFlight for Faulty {
     fn image(&self, b: u16, into: &mut [u8]) -> Result<(), Refusal> {
         check_bytes(into)?;
         check_block(b, self.blocks)?;
-        if !self.flying(b) {
-            return Err(Refusal::BlockNotInFlight);
+        match &self.flight {
+            Some(flight) if flight.0 == b => {
+                into.copy_from_slice(&flight.1);
+                Ok(())
+            }
+            _ => Err(Refusal::BlockNotInFlight),
         }
-        if let Some(flight) = &self.flight {
-            into.copy_from_slice(&flight.1);
-        }
-        Ok(())
     }
 }

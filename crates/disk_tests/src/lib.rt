@@ -62,7 +62,7 @@ mod tests {
         }
     }
 
-    // Fails the test where an answer is not the wanted one; a helper does not end the process.
+    // Fails the test where an answer is not the wanted one. By a Fail and not by assert_eq: helpers take no runtime that may end the process.
     fn check_eq<T: PartialEq + Debug + Drop>(got: T, wanted: T) -> Result<(), Fail> {
         if got != wanted {
             return Err(Fail::new(format_args!("{got:?} is not {wanted:?}")));
@@ -219,7 +219,7 @@ mod tests {
         Ok(())
     }
 
-    // The plain disk over rows answers the same tables.
+    // All tables of the plain disk, one after the other.
     #[test]
     fn plain_disk_over_rows(rt: HostRuntime) -> Result<(), Fail> {
         let mut small = [9u8; 768];

@@ -2,3 +2,4 @@ pub mod Counted
 pub mod Fresh
 pub mod Turns
 pub mod WornOut
+pub mod Entries

@@ -1,3 +1,4 @@
+pub mod Table
 pub mod Pages
 pub mod Wear
 pub mod Paged

@@ -1,7 +1,7 @@
 ghost use Rattle.std.specs.Prelude.{◌≡◌, ◌*◌, ◌<◌, ◌≤◌, [], length};
 ghost use Rattle.disk.specs.Meaning.{Still};
 ghost use Rattle.disk.specs.Rules.{CheckRule};
-ghost use Rattle.rows.specs.Blocks.{Has, Whole, block, put_block};
+ghost use Rattle.rows.specs.Blocks.{Has, Whole, GetRule, put_block};
 ghost use Rattle.page_disk.specs.declared.pages.Page.TheVariants.{Image};
 ghost use Rattle.page_disk.specs.Pages.{fresh, put_page, BestBelow};
 ghost use Rattle.page_disk.specs.Wear.{PageStart, PageFinish};
@@ -79,6 +79,7 @@ impl Paged<'_> {
     }
 
     // The spare page with most life left, the lower number among equals.
+    // A method: a table that `start` lends out of its `&mut self` leaves the proof of a refused call open.
     fn best(&self) -> Option<usize>
         ensures { BestBelow self.now.pages.pages self.now.pages.lives (length self.now.pages.pages) result }
     {
@@ -86,15 +87,16 @@ impl Paged<'_> {
     }
 
     // Copies out page j.
-    fn copy_out(&self, j: usize, into: &mut [u8])
-        requires { Has j self.now.bytes.now × Whole into.old }
-        ensures { into.new ≡ block j self.now.bytes.now }
+    // A method, and not a call in `read`: bytes that `read` lends out of its `&mut self` leave its proof open.
+    fn copy_out(&self, j: usize, into: &mut [u8]) -> Result<(), Refusal>
+        ensures { GetRule self.now.bytes.now j into.old into.new result }
     {
-        get_block(self.bytes, j, into).unwrap();
+        get_block(self.bytes, j, into)
     }
 }
 
 // Puts the image of block b into page j.
+// Over the bytes and the table and not the disk: between the two writes the disk's own fact does not hold.
 fn take(bytes: &mut [u8], pages: &mut Pages, j: usize, b: u16, image: &[u8])
     requires within { Has j bytes.old }
     requires whole { Whole image.now }
@@ -118,7 +120,7 @@ impl Disk for Paged<'_> {
     ghost ends = { λ x b o y. PageFinish x.bytes.now x.pages b o y.bytes.now y.pages };
 
     fn blocks(&self) -> u16 {
-        self.pages.blocks
+        self.pages.blocks()
     }
 
     fn still(&self) -> bool {
@@ -130,20 +132,19 @@ impl Disk for Paged<'_> {
     }
 
     fn is_open(&self, b: u16) -> bool {
-        b < self.pages.blocks && self.pages.image_of(b).is_none() && self.pages.has_spare()
+        b < self.blocks() && self.pages.image_of(b).is_none() && self.pages.has_spare()
     }
 
     #[tactic(auto, using(crate::specs::Laws::found_inside))]
     fn read(&mut self, b: u16, into: &mut [u8]) -> Result<(), Refusal> {
         check_bytes(into)?;
         let j = self.pages.page_of(b).ok_or(Refusal::NoSuchBlock)?;
-        self.copy_out(j, into);
-        Ok(())
+        self.copy_out(j, into)
     }
 
     fn start(&mut self, b: u16, image: &[u8]) -> Result<(), Refusal> {
         check_bytes(image)?;
-        check_block(b, self.pages.blocks)?;
+        check_block(b, self.blocks())?;
         if self.flying(b) {
             return Err(Refusal::BlockInFlight);
         }
@@ -163,9 +164,8 @@ impl InFlight for Paged<'_> {
     #[tactic(auto, using(crate::specs::Laws::found_inside))]
     fn image(&self, b: u16, into: &mut [u8]) -> Result<(), Refusal> {
         check_bytes(into)?;
-        check_block(b, self.pages.blocks)?;
+        check_block(b, self.blocks())?;
         let j = self.pages.image_of(b).ok_or(Refusal::BlockNotInFlight)?;
-        self.copy_out(j, into);
-        Ok(())
+        self.copy_out(j, into)
     }
 }

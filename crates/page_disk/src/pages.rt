@@ -1,10 +1,11 @@
-ghost use Rattle.std.specs.Prelude.{◌≡◌, ◌+◌, ◌<◌, length, is_some, count_by, nat_le};
+ghost use Rattle.std.specs.Prelude.{map, ◌≡◌, ◌+◌, ◌<◌, length, is_some, count_by, nat_le};
 ghost use Rattle.page_disk.specs.declared.pages.Page.TheVariants.{Spare, Medium, Image};
 ghost use Rattle.page_disk.specs.Pages.{live, carries, idle, place, fresh_page, fresh, put_page, BestBelow};
 ghost use Rattle.page_disk.specs.Wear.{EndsIn};
 
 use disk::Outcome;
 use std::array;
+use std::marker::Model;
 
 // The most pages that a page disk has.
 pub const MOST_PAGES: usize = 80;
@@ -50,13 +51,44 @@ impl Page {
     }
 }
 
+// An entry of the table: what a page is for, and what life it has left.
+#[derive(Clone, Copy)]
+struct Entry {
+    page: Page,
+    life: u16,
+}
+
+// The lowest entry whose page is for this.
+fn place_of(entries: &[Entry], wanted: Page) -> Option<usize>
+    ensures { result ≡ place wanted (map (λ e. e.page) entries.now) }
+{
+    entries.iter().map(|e| e.page).position(|p| p == wanted)
+}
+
+// Whether no entry's page has an image in flight.
+fn are_idle(entries: &[Entry]) -> bool
+    ensures { result ≡ idle (map (λ e. e.page) entries.now) }
+{
+    entries.iter().map(|e| e.page).all(|p| !p.carries())
+}
+
 // The blocks of a page disk, what its pages are for, and what life they have left.
 #[derive(Drop)]
 pub struct Pages {
-    pub blocks: u16,
-    // Two arrays, not one of pairs: each look-up, and each definition, asks one of them only.
-    pub pages: [Page; MOST_PAGES],
-    pub lives: [u16; MOST_PAGES],
+    blocks: u16,
+    entries: [Entry; MOST_PAGES],
+}
+
+// A contract sees what the pages are for and their lives, each as a list.
+impl Model for Pages {
+    ghost use Rattle.std.specs.Prelude.{◌≡◌, map, length};
+    ghost use Rattle.page_disk.specs.Table.{Table};
+
+    ghost Value = { Table };
+
+    ghost view = { λ t. record { blocks = t.blocks; pages = map (λ e. e.page) t.entries; lives = map (λ e. e.life) t.entries } };
+
+    ghost invariant = { λ t. length t.entries ≡ 80 };
 }
 
 impl Pages {
@@ -66,60 +98,64 @@ impl Pages {
     {
         Pages {
             blocks,
-            pages: array::from_fn(|i| Page::fresh(blocks, lives.len(), i)),
-            lives: array::from_fn(|i| lives.get(i).copied().unwrap_or(0)),
+            entries: array::from_fn(|i| Entry {
+                page: Page::fresh(blocks, lives.len(), i),
+                life: lives.get(i).copied().unwrap_or(0),
+            }),
         }
     }
 
-    // The lowest page that is for this.
-    fn place_of(&self, wanted: Page) -> Option<usize>
-        ensures { result ≡ place wanted self.now.pages }
+    // The number of blocks.
+    pub fn blocks(&self) -> u16
+        ensures { result ≡ self.now.blocks }
     {
-        self.pages.iter().position(|p| *p == wanted)
+        self.blocks
     }
 
     // The page that has the medium's block b.
     pub fn page_of(&self, b: u16) -> Option<usize>
         ensures { result ≡ place (Medium b) self.now.pages }
     {
-        self.place_of(Page::Medium(b))
+        place_of(&self.entries, Page::Medium(b))
     }
 
     // The page that has the image of block b in flight.
     pub fn image_of(&self, b: u16) -> Option<usize>
         ensures { result ≡ place (Image b) self.now.pages }
     {
-        self.place_of(Page::Image(b))
+        place_of(&self.entries, Page::Image(b))
     }
 
     // Whether a spare page exists.
     pub fn has_spare(&self) -> bool
         ensures { result ≡ is_some (place Spare self.now.pages) }
     {
-        self.place_of(Page::Spare).is_some()
+        place_of(&self.entries, Page::Spare).is_some()
     }
 
     // Whether nothing is in flight.
     pub fn is_idle(&self) -> bool
         ensures { result ≡ idle self.now.pages }
     {
-        self.pages.iter().all(|p| !p.carries())
+        are_idle(&self.entries)
     }
 
     // Whether at most so many pages as there are blocks are not retired.
     pub fn is_spent(&self) -> bool
         ensures { result ≡ nat_le (count_by live self.now.pages) self.now.blocks }
     {
-        self.pages.iter().filter(|p| p.is_live()).count() <= self.blocks as usize
+        self.entries.iter().filter(|e| e.page.is_live()).count() <= self.blocks as usize
     }
 
     // The spare page with most life left, the lower number among equals.
+    // A loop: as a chain, by `filter` and `min_by_key` or by `fold`, the check leaves its clause open.
+    #[tactic(auto, using(crate::proofs::Entries::entry_steps))]
     pub fn best(&self) -> Option<usize>
         ensures { BestBelow self.now.pages self.now.lives (length self.now.pages) result }
     {
         let mut best: Option<usize> = None;
-        for (i, page) in self.pages.iter().enumerate() {
-            if *page == Page::Spare && best.is_none_or(|j| self.lives[i] > self.lives[j]) {
+        for (i, e) in self.entries.iter().enumerate() {
+            if e.page == Page::Spare && best.is_none_or(|j| e.life > self.entries[j].life) {
                 best = Some(i);
             }
         }
@@ -127,25 +163,28 @@ impl Pages {
     }
 
     // Page j takes the image of block b.
+    // That a page is there is said here, of `end`, and of the disk's `take`: an index with its bound would be taken apart at each look-up.
+    #[tactic(auto, using(crate::proofs::Entries::entry_steps))]
     pub fn take(&mut self, j: usize, b: u16)
         requires { j < 80 }
         ensures { self.new ≡ put_page j (Image b) self.old }
     {
-        self.pages[j] = Page::Image(b);
+        self.entries[j].page = Page::Image(b);
     }
 
     // Ends the write of block b from its page `old` to page j.
+    #[tactic(auto, using(crate::proofs::Entries::entry_steps))]
     pub fn end(&mut self, j: usize, old: usize, b: u16) -> Outcome
         requires { (j < 80) × (old < 80) }
         ensures { EndsIn j old self.old b result self.new }
     {
-        if self.lives[j] == 0 {
-            self.pages[j] = Page::Retired;
+        if self.entries[j].life == 0 {
+            self.entries[j].page = Page::Retired;
             return Outcome::Failed { layer: 1, block: b };
         }
-        self.pages[old] = Page::Spare;
-        self.pages[j] = Page::Medium(b);
-        self.lives[j] -= 1;
+        self.entries[old].page = Page::Spare;
+        self.entries[j].page = Page::Medium(b);
+        self.entries[j].life -= 1;
         Outcome::Written
     }
 }

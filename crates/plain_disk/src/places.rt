@@ -1,7 +1,7 @@
 ghost use Rattle.std.specs.Prelude.{◌≡◌, ◌+◌, ◌^◌, ◌<◌, ◌==◌, nat_lt};
 ghost use Rattle.plain_disk.specs.declared.places.Slot.TheVariants.{Free, Holding};
 ghost use Rattle.plain_disk.specs.Slots.{same_slot, busy, place, flights, fresh_slot};
-ghost use Rattle.plain_disk.specs.Places.{fresh, put_slot};
+ghost use Rattle.plain_disk.specs.Places.{fresh};
 
 use std::array;
 
@@ -37,7 +37,7 @@ fn fresh_slot(i: usize, count: u8) -> Slot
 }
 
 // The blocks of a plain disk, and its places: as many as the count, the others absent.
-// An array with a count and no Vec: the making of a disk over lent bytes cannot fail, so it asks for no memory.
+// An array with a count, and no shorter list: the definitions of a plain disk have a slot for a place that is absent, so a list is no plainer.
 #[derive(Drop)]
 pub struct Places {
     pub blocks: u16,
@@ -57,18 +57,25 @@ impl Places {
         }
     }
 
+    // The lowest place with this slot.
+    fn find(&self, wanted: Slot) -> Option<usize>
+        ensures { result ≡ place wanted self.now.slots }
+    {
+        self.slots.iter().position(|s| *s == wanted)
+    }
+
     // The place that holds the image of block b.
     pub fn place_of(&self, b: u16) -> Option<usize>
         ensures { result ≡ place (Holding b) self.now.slots }
     {
-        self.slots.iter().position(|s| *s == Slot::Holding(b))
+        self.find(Slot::Holding(b))
     }
 
     // The lowest free place.
     pub fn free_place(&self) -> Option<usize>
         ensures { result ≡ place Free self.now.slots }
     {
-        self.slots.iter().position(|s| *s == Slot::Free)
+        self.find(Slot::Free)
     }
 
     // How many places hold an image.
@@ -98,14 +105,5 @@ impl Places {
         ensures { result ≡ self.now.blocks + j }
     {
         self.blocks as usize + j
-    }
-
-    // Puts a slot at place j, where there is one.
-    pub fn put(&mut self, j: usize, slot: Slot)
-        ensures { self.new ≡ put_slot j slot self.old }
-    {
-        if j < MOST_PLACES {
-            self.slots[j] = slot;
-        }
     }
 }

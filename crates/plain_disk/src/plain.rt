@@ -66,7 +66,8 @@ impl<'a> Plain<'a> {
 }
 
 impl Plain<'_> {
-    // Copies out block i of the bytes. The page disk has its own: one for both would need a trait for what has bytes.
+    // Copies out block i of the bytes.
+    // A method, and not a call in `read`: bytes that `read` lends out of its `&mut self` leave its proof open.
     fn copy_out(&self, i: usize, into: &mut [u8]) -> Result<(), Refusal>
         ensures { GetRule self.now.bytes.now i into.old into.new result }
     {
@@ -74,6 +75,7 @@ impl Plain<'_> {
     }
 
     // Copies out the image in place j.
+    // That the bytes have the place is said here and of `take` and `land`: it ties table, place and bytes, which no one type holds.
     fn show(&self, j: usize, into: &mut [u8]) -> Result<(), Refusal>
         requires { Has (self.now.places.blocks + j) self.now.bytes.now }
         ensures { GetRule self.now.bytes.now (self.now.places.blocks + j) into.old into.new result }
@@ -82,6 +84,7 @@ impl Plain<'_> {
     }
 
     // The place that holds the image of block b.
+    // A method, as the next one is: a table that a call lends out of its `&mut self` leaves the proof of a refused call open.
     fn place_of(&self, b: u16) -> Option<usize>
         ensures { result ≡ place (Holding b) self.now.places.slots }
     {
@@ -97,25 +100,28 @@ impl Plain<'_> {
 }
 
 // Puts the image of block b into place j.
+// Over the bytes and the table and not the disk, as the next one is: between the two writes the disk's own fact does not hold.
 fn take(bytes: &mut [u8], places: &mut Places, j: usize, b: u16, image: &[u8])
     requires within { Has (places.old.blocks + j) bytes.old }
     requires whole { Whole image.now }
+    requires place { j < 8 }
     ensures bytes { bytes.new ≡ put_block (places.old.blocks + j) image.now bytes.old }
     ensures places { places.new ≡ put_slot j (Holding b) places.old }
 {
     put_block(bytes, places.row_of(j), image).unwrap();
-    places.put(j, Slot::Holding(b));
+    places.slots[j] = Slot::Holding(b);
 }
 
 // Copies the image in place j over block b of the medium, and frees the place.
 fn land(bytes: &mut [u8], places: &mut Places, j: usize, b: u16)
     requires source { Has (places.old.blocks + j) bytes.old }
     requires target { Has b bytes.old }
+    requires place { j < 8 }
     ensures bytes { bytes.new ≡ put_block b (block (places.old.blocks + j) bytes.old) bytes.old }
     ensures places { places.new ≡ put_slot j Free places.old }
 {
     move_block(bytes, places.row_of(j), b as usize).unwrap();
-    places.put(j, Slot::Free);
+    places.slots[j] = Slot::Free;
 }
 
 impl Disk for Plain<'_> {

@@ -79,24 +79,26 @@ fn choice(heap: Global, flying: &[u16], number: usize) -> Result<Vec<u16>, Alloc
         .collect(heap)
 }
 
-// Copies out what stands at block b: its image if it got written, else the medium's block.
+// What stands at block b: its image if it got written, else the medium's block.
+// That the meaning stays is said here and of the two calls below: it is about a disk before and after, which no type holds.
 #[tactic(auto, using(crate::proofs::Members::among_any))]
-fn copy_standing<D: InFlight>(disk: &mut D, written: &[u16], b: u16, into: &mut [u8])
-    requires whole { length into.old ≡ 256 }
+fn standing<D: InFlight>(disk: &mut D, written: &[u16], b: u16) -> [u8; BLOCK]
     requires within { b < (D.Disk.meaning disk.old).blocks }
     requires flying { among written.now b ≡ true → flies (D.Disk.meaning disk.old) b ≡ true }
     ensures same { D.Disk.meaning disk.new ≡ D.Disk.meaning disk.old }
-    ensures copied { into.new ≡ stands (D.Disk.meaning disk.old) (among written.now) b }
+    ensures stands { result ≡ stands (D.Disk.meaning disk.old) (among written.now) b }
 {
+    let mut block = [0; BLOCK];
     if written.contains(&b) {
-        disk.image(b, into).unwrap();
+        disk.image(b, &mut block).unwrap();
     } else {
-        disk.read(b, into).unwrap();
+        disk.read(b, &mut block).unwrap();
     }
+    block
 }
 
 // The state that a loss of supply leaves if just these of the blocks in flight get written.
-// A loop and no chain, as the next one is: each round may change the disk and may fail.
+// A loop and no chain: each round reads the disk, which may change what it keeps beside its meaning, and asks for memory.
 fn state_with<D: InFlight>(
     heap: Global,
     disk: &mut D,
@@ -109,14 +111,13 @@ fn state_with<D: InFlight>(
 {
     let mut blocks = Vec::new(heap);
     for b in 0..disk.blocks() {
-        let mut block = [0; BLOCK];
-        copy_standing(disk, written.as_slice(), b, &mut block);
-        blocks.push(block)?;
+        blocks.push(standing(disk, &written, b))?;
     }
     Ok(State { written, blocks })
 }
 
 // Every state that a loss of supply can leave at this moment: each choice of the blocks in flight once.
+// A loop and no chain, for the same reason.
 pub fn states<D: InFlight>(heap: Global, disk: &mut D) -> Result<Vec<State>, Unlisted>
     ensures same { D.Disk.meaning disk.new ≡ D.Disk.meaning disk.old }
     ensures listed { Listed (D.Disk.meaning disk.old) result }

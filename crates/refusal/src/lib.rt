@@ -57,7 +57,8 @@ pub enum Refusal {
 }
 
 impl Refusal {
-    // The number by which users know the refusal; `as` cannot give it, since one refusal has a field.
+    // The number by which users know the refusal.
+    // No `From`: that has one member for what it promises, and this call has two clauses; nor `as`, since one refusal has a field.
     pub fn code(self) -> u8
         ensures value { result ≡ code_of self }
         ensures tells { Tells self result }
@@ -89,7 +90,8 @@ impl Refusal {
         }
     }
 
-    // The place of the misplaced word; 0 for every other refusal, since each is shown with a place.
+    // The place of the misplaced word, and 0 for every other refusal.
+    // No Option: each refusal is shown and reported with a place.
     pub fn place(self) -> u16
         ensures { result ≡ place_of self }
     {
@@ -99,10 +101,11 @@ impl Refusal {
         }
     }
 
-    // Whether two refusals are the same: as `==` says, which a derive gives without a clause.
+    // Whether two refusals are the same, and that `==` says so: a derive has no clause for it.
     pub fn is_same(self, other: Refusal) -> bool
         ensures value { result ≡ same_refusal self other }
         ensures same { Decides result (self ≡ other) }
+        ensures derived { result ≡ ⟦<Refusal as PartialEq>⟧.eq self other }
     {
         self == other
     }

@@ -24,6 +24,7 @@ fn check(row: &[u8], i: usize, image: &[u8]) -> Result<(), Refusal>
 }
 
 // Copies out block i of a row that has it.
+// Slices and no arrays of 256, here and where disks put an image: the calls take slices, since a wrong length is a refusal.
 fn copy_out(row: &[u8], i: usize, into: &mut [u8])
     requires { Has i row.now × Whole into.old }
     ensures { into.new ≡ block i row.now }

@@ -8,6 +8,6 @@ use Rattle.power_loss.proofs.state_with.Goals as goal
 pub loop-b-preserved : goal.loop-b-preserved
 loop-b-preserved g c =
     let m = g.D.Disk.meaning c.args.disk.now in
-    let push = pushed (c.copy_standing.new.into ∷ []) c.loop-b.invariant.1 c.in_ok-push.was c.push.ensures.items in
-    let more = push-more (stands m (among (vec_items c.args.written))) c.loop-b.b (vec_items c.push.new.self) c.copy_standing.new.into push in
+    let push = pushed (c.standing.result ∷ []) c.loop-b.invariant.1 c.in_ok-push.was c.push.ensures.items in
+    let more = push-more (stands m (among (vec_items c.args.written))) c.loop-b.b (vec_items c.push.new.self) c.standing.result push in
     (cc, more (cc))

@@ -15,13 +15,9 @@ invariant_of-self c =
     let x = c.args.self.now in
     record { sound = (finished x.bytes.now x.places x.sound c.args.b c.in_ok-j.j c.land.new.bytes c.land.new.places (search rules) c.land.ensures.bytes c.land.ensures.places).keeps }
 
-pub returns-clause-rule : goal.returns-clause-rule
-returns-clause-rule c =
+pub returns : goal.returns
+returns c =
     let x = c.args.self.now in
     let held : place (Holding c.args.b) x.places.slots ≡ Some c.in_ok-j.j = search rules in
-    (flies-plain x.bytes.now x.places x.sound c.args.b ∙ ap is_some held, (finished x.bytes.now x.places x.sound c.args.b c.in_ok-j.j c.land.new.bytes c.land.new.places held c.land.ensures.bytes c.land.ensures.places).effect)
-
-pub returns-clause-ends : goal.returns-clause-ends
-returns-clause-ends c =
-    let x = c.args.self.now in
-    (refl, (finished x.bytes.now x.places x.sound c.args.b c.in_ok-j.j c.land.new.bytes c.land.new.places (search rules) c.land.ensures.bytes c.land.ensures.places).ends)
+    let f = finished x.bytes.now x.places x.sound c.args.b c.in_ok-j.j c.land.new.bytes c.land.new.places held c.land.ensures.bytes c.land.ensures.places in
+    record { rule = (flies-plain x.bytes.now x.places x.sound c.args.b ∙ ap is_some held, f.effect); same = tt; ends = (refl, f.ends) }

@@ -28,13 +28,8 @@ invariant_of-self c =
       sound = (started x.bytes.now x.places x.sound c.args.b c.in_ok-j.j c.args.image.now c.take.new.bytes c.take.new.places (none_from _ (search rules)) (search rules) (search rules) (search rules) c.take.ensures.bytes c.take.ensures.places).keeps;
     }
 
-pub returns-clause-rule : goal.returns-clause-rule
-returns-clause-rule c =
+pub returns : goal.returns
+returns c =
     let x = c.args.self.now in
     let s = started x.bytes.now x.places x.sound c.args.b c.in_ok-j.j c.args.image.now c.take.new.bytes c.take.new.places (none_from _ (search rules)) (search rules) (search rules) (search rules) c.take.ensures.bytes c.take.ensures.places in
-    (search rules, s.opens, s.effect)
-
-pub returns-clause-starts : goal.returns-clause-starts
-returns-clause-starts c =
-    let x = c.args.self.now in
-    (started x.bytes.now x.places x.sound c.args.b c.in_ok-j.j c.args.image.now c.take.new.bytes c.take.new.places (none_from _ (search rules)) (search rules) (search rules) (search rules) c.take.ensures.bytes c.take.ensures.places).starts
+    record { rule = (search rules, s.opens, s.effect); same = tt; starts = s.starts }
