@@ -13,7 +13,7 @@ pub struct Faulty {
     // The block in flight, and its image.
     flight: Option<(u16, [u8; BLOCK])>,
     // The layer counts from 1, and the block in flight is below the number of blocks, with a whole image.
-    ghost sound: { Sound blocks layer flight },
+    pub ghost sound: { Sound blocks layer flight },
 }
 
 impl Faulty {
@@ -63,14 +63,12 @@ impl Disk for Faulty {
     }
 
     fn start(&mut self, b: u16, image: &[u8]) -> Result<(), Refusal> {
-        check_bytes(image)?;
+        let bytes = <[u8; BLOCK]>::try_from(image).map_err(|_| Refusal::UnfitBytes)?;
         check_block(b, self.blocks)?;
         match self.flight {
             Some((a, _)) if a == b => Err(Refusal::BlockInFlight),
             Some(_) => Err(Refusal::BlockNotOpen),
             None => {
-                let mut bytes = [0; BLOCK];
-                bytes.copy_from_slice(image);
                 self.flight = Some((b, bytes));
                 Ok(())
             }

@@ -62,7 +62,7 @@ mod tests {
         }
     }
 
-    // Fails the test where an answer is not the wanted one. By a Fail and not by assert_eq: helpers take no runtime that may end the process.
+    // Fails the test where an answer is not the wanted one; by a Fail, so that no helper ends the process.
     fn check_eq<T: PartialEq + Debug + Drop>(got: T, wanted: T) -> Result<(), Fail> {
         if got != wanted {
             return Err(Fail::new(format_args!("{got:?} is not {wanted:?}")));

@@ -12,29 +12,6 @@ const PLACES: u8 = 2;
 
 const BYTES: usize = BLOCK * (BLOCKS as usize + PLACES as usize);
 
-// A step of a scene: start a block with an image of one byte, finish a block, or list what a loss can leave.
-// No closures: a scene is data, which one table holds and any disk may play.
-#[derive(Clone, Copy)]
-enum Step {
-    Start(u16, u8),
-    Finish(u16),
-    List,
-}
-
-const STEPS: [Step; 11] = [
-    Step::List,
-    Step::Start(0, 0x11),
-    Step::Start(2, 0x22),
-    Step::Start(3, 0x33),
-    Step::List,
-    Step::Finish(0),
-    Step::List,
-    Step::Finish(0),
-    Step::Start(3, 0x33),
-    Step::Start(BLOCKS, 0x44),
-    Step::List,
-];
-
 // A state as it is shown: which blocks got written, or "-", then the first bytes of each block.
 #[derive(Drop)]
 struct Shown<'a>(&'a State);
@@ -56,7 +33,7 @@ impl fmt::Display for Shown<'_> {
     }
 }
 
-// A disk on which steps are taken and their answers printed.
+// A disk on which calls are made and their answers printed.
 #[derive(Drop)]
 struct Scene<'a, D: InFlight + Drop> {
     rt: &'a HostRuntime,
@@ -93,15 +70,6 @@ impl<D: InFlight + Drop> Scene<'_, D> {
             Err(why) => println!(self.rt; "{why} to list the states"),
         }
     }
-
-    // Takes one step.
-    fn take(&mut self, step: Step) -> io::Result<()> {
-        match step {
-            Step::Start(b, byte) => self.start(b, byte),
-            Step::Finish(b) => self.finish(b),
-            Step::List => self.list(),
-        }
-    }
 }
 
 fn main(rt: HostRuntime) -> io::Result<()> {
@@ -111,8 +79,15 @@ fn main(rt: HostRuntime) -> io::Result<()> {
         rt: &rt,
         disk: Plain::new(&mut bytes, BLOCKS, PLACES),
     };
-    for step in STEPS {
-        scene.take(step)?;
-    }
-    Ok(())
+    scene.list()?;
+    scene.start(0, 0x11)?;
+    scene.start(2, 0x22)?;
+    scene.start(3, 0x33)?;
+    scene.list()?;
+    scene.finish(0)?;
+    scene.list()?;
+    scene.finish(0)?;
+    scene.start(3, 0x33)?;
+    scene.start(BLOCKS, 0x44)?;
+    scene.list()
 }

@@ -22,11 +22,12 @@ pub struct Paged<'a> {
     bytes: &'a mut [u8],
     pages: Pages,
     // Each block is in one page, each in flight has one image, and the pages in use are within the bytes.
-    ghost sound: { Sound bytes.now pages },
+    pub ghost sound: { Sound bytes.now pages },
 }
 
 impl<'a> Paged<'a> {
     // Whether the bytes are so many pages as there are lives, 2 to 80, for so many blocks, 1 to 64 and fewer than the pages.
+    // The three stay apart here and in `new`, which are public calls and keep their parameters.
     pub fn check(bytes: &[u8], blocks: u16, lives: &[u16]) -> Result<(), Refusal>
         ensures { CheckRule (Fit (length bytes.now) blocks (length lives.now)) result }
     {
@@ -97,6 +98,7 @@ impl Paged<'_> {
 
 // Puts the image of block b into page j.
 // Over the bytes and the table and not the disk: between the two writes the disk's own fact does not hold.
+// A slice and no array of 256: `start` would turn its slice into one, and the error of that into its refusal.
 fn take(bytes: &mut [u8], pages: &mut Pages, j: usize, b: u16, image: &[u8])
     requires within { Has j bytes.old }
     requires whole { Whole image.now }

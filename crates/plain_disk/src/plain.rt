@@ -20,11 +20,12 @@ pub struct Plain<'a> {
     bytes: &'a mut [u8],
     places: Places,
     // Each block in flight is in one place of those that are there, and the bytes fit.
-    ghost sound: { Sound bytes.now places },
+    pub ghost sound: { Sound bytes.now places },
 }
 
 impl<'a> Plain<'a> {
     // Whether the bytes are so many blocks and so many places, 1 to 8.
+    // The three stay apart here and in `new`, which are public calls and keep their parameters.
     pub fn check(bytes: &[u8], blocks: u16, places: u8) -> Result<(), Refusal>
         ensures { CheckRule (Fit (length bytes.now) blocks places) result }
     {
@@ -75,7 +76,7 @@ impl Plain<'_> {
     }
 
     // Copies out the image in place j.
-    // That the bytes have the place is said here and of `take` and `land`: it ties table, place and bytes, which no one type holds.
+    // That the bytes have the place is said here, of `take` and of `land`: it ties table, place and bytes, which no one type holds.
     fn show(&self, j: usize, into: &mut [u8]) -> Result<(), Refusal>
         requires { Has (self.now.places.blocks + j) self.now.bytes.now }
         ensures { GetRule self.now.bytes.now (self.now.places.blocks + j) into.old into.new result }
@@ -84,7 +85,7 @@ impl Plain<'_> {
     }
 
     // The place that holds the image of block b.
-    // A method, as the next one is: a table that a call lends out of its `&mut self` leaves the proof of a refused call open.
+    // A method, as the next one is: a table that `finish` or `start` lends out of its `&mut self` leaves the proof of a refused call open.
     fn place_of(&self, b: u16) -> Option<usize>
         ensures { result ≡ place (Holding b) self.now.places.slots }
     {
@@ -101,6 +102,7 @@ impl Plain<'_> {
 
 // Puts the image of block b into place j.
 // Over the bytes and the table and not the disk, as the next one is: between the two writes the disk's own fact does not hold.
+// A slice and no array of 256: `start` would turn its slice into one, and the error of that into its refusal.
 fn take(bytes: &mut [u8], places: &mut Places, j: usize, b: u16, image: &[u8])
     requires within { Has (places.old.blocks + j) bytes.old }
     requires whole { Whole image.now }

@@ -60,6 +60,7 @@ impl<T: Drop> From<AllocFailed<T>> for Unlisted {
 }
 
 // The blocks in flight, in rising order.
+// Heap and disk stay apart, here and below: `states` is a public call and keeps its parameters.
 fn flying_blocks<D: InFlight>(heap: Global, disk: &D) -> Result<Vec<u16>, AllocError>
     ensures { IfOk result (λ v. v.items ≡ airborne (D.Disk.meaning disk.now)) }
 {
@@ -98,7 +99,7 @@ fn standing<D: InFlight>(disk: &mut D, written: &[u16], b: u16) -> [u8; BLOCK]
 }
 
 // The state that a loss of supply leaves if just these of the blocks in flight get written.
-// A loop and no chain: each round reads the disk, which may change what it keeps beside its meaning, and asks for memory.
+// A loop: as a chain, whose closure changes the disk that it borrows, nothing is known of the disk after it, and `same` stays open.
 fn state_with<D: InFlight>(
     heap: Global,
     disk: &mut D,
@@ -117,7 +118,7 @@ fn state_with<D: InFlight>(
 }
 
 // Every state that a loss of supply can leave at this moment: each choice of the blocks in flight once.
-// A loop and no chain, for the same reason.
+// A loop, for the same reason.
 pub fn states<D: InFlight>(heap: Global, disk: &mut D) -> Result<Vec<State>, Unlisted>
     ensures same { D.Disk.meaning disk.new ≡ D.Disk.meaning disk.old }
     ensures listed { Listed (D.Disk.meaning disk.old) result }

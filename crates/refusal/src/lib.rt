@@ -58,7 +58,7 @@ pub enum Refusal {
 
 impl Refusal {
     // The number by which users know the refusal.
-    // No `From`: that has one member for what it promises, and this call has two clauses; nor `as`, since one refusal has a field.
+    // No `From`: this call is public and stays with its two clauses, so that would be a second way to the same number.
     pub fn code(self) -> u8
         ensures value { result ≡ code_of self }
         ensures tells { Tells self result }

@@ -24,7 +24,8 @@ fn check(row: &[u8], i: usize, image: &[u8]) -> Result<(), Refusal>
 }
 
 // Copies out block i of a row that has it.
-// Slices and no arrays of 256, here and where disks put an image: the calls take slices, since a wrong length is a refusal.
+// Slices and no arrays of 256: each call would turn its slice into one, and the error of that into its refusal.
+// Ranges and no chunks: contracts say which bytes a block is, and a run of chunks would have to be led back to that. Row and index stay apart, as in the public calls.
 fn copy_out(row: &[u8], i: usize, into: &mut [u8])
     requires { Has i row.now × Whole into.old }
     ensures { into.new ≡ block i row.now }
