@@ -11,7 +11,7 @@ mod tests {
     use join_disk::Join;
     use page_disk::Paged;
     use plain_disk::Plain;
-    use power_loss::states;
+    use power_loss::{Unlisted, states};
     use refusal::Refusal;
     use rows::{get_block, move_block, put_block};
     use std::fmt::Debug;
@@ -484,6 +484,19 @@ mod tests {
     fn states_of_a_loss(rt: HostRuntime) -> Result<(), Fail> {
         let mut bytes = [0u8; 1024];
         doubles(&rt, &mut Plain::new(&mut bytes, 2, 2))
+    }
+
+    #[test]
+    fn shown_outcomes(rt: HostRuntime) -> Result<(), Fail> {
+        let written = Outcome::Written.to_string(rt.alloc())?;
+        assert_eq!(rt; written.as_str(), "written");
+        let failed = Outcome::Failed { layer: 2, block: 7 }.to_string(rt.alloc())?;
+        assert_eq!(rt; failed.as_str(), "failed in layer 2 at block 7");
+        let memory = Unlisted::Memory.to_string(rt.alloc())?;
+        assert_eq!(rt; memory.as_str(), "no memory");
+        let many = Unlisted::TooManyInFlight.to_string(rt.alloc())?;
+        assert_eq!(rt; many.as_str(), "too many blocks in flight");
+        Ok(())
     }
 
     #[test]
