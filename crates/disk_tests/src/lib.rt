@@ -472,6 +472,7 @@ mod tests {
     }
 
     // One state with nothing in flight, then two, then four.
+    // Runtime and disk stay apart: no other helper takes both.
     fn doubles<D: InFlight>(rt: &HostRuntime, disk: &mut D) -> Result<(), Fail> {
         check_eq(states(rt.alloc(), disk)?.len(), 1)?;
         check_eq(call(disk, Step::Start(1, 5)), Answer::Started(Ok(())))?;

@@ -98,6 +98,7 @@ impl Paged<'_> {
 
 // Puts the image of block b into page j.
 // Over the bytes and the table and not the disk: between the two writes the disk's own fact does not hold.
+// That the bytes have the page ties bytes and index, which no one type holds.
 // A slice and no array of 256: `start` would turn its slice into one, and the error of that into its refusal.
 fn take(bytes: &mut [u8], pages: &mut Pages, j: usize, b: u16, image: &[u8])
     requires within { Has j bytes.old }

@@ -25,7 +25,8 @@ fn check(row: &[u8], i: usize, image: &[u8]) -> Result<(), Refusal>
 
 // Copies out block i of a row that has it.
 // Slices and no arrays of 256: each call would turn its slice into one, and the error of that into its refusal.
-// Ranges and no chunks: contracts say which bytes a block is, and a run of chunks would have to be led back to that. Row and index stay apart, as in the public calls.
+// Ranges and no chunks: contracts say which bytes a block is, and a run of chunks would have to be led back to that.
+// That the row has the block ties row and index, which no one type holds; the two stay apart, as in the public calls.
 fn copy_out(row: &[u8], i: usize, into: &mut [u8])
     requires { Has i row.now × Whole into.old }
     ensures { into.new ≡ block i row.now }
