@@ -2,11 +2,14 @@
 
 ghost use Rattle.std.specs.Prelude.{◌≡◌, Some, Decides};
 ghost use Rattle.refusal.specs.Codes.{code_of, place_of, same_refusal, shown_as, Tells};
+ghost use Rattle.std.specs.Cmp.{partial_equiv_from_equiv};
+ghost use Rattle.std.specs.Cmp.Rules.{comparing};
+ghost use Rattle.std.proofs.Common.{rules};
 
 use std::fmt;
 
 // Why a call is refused. The first twelve are caused by the input, the others by the state.
-#[derive(Clone, Copy, PartialEq, Eq, Debug)]
+#[derive(Clone, Copy, Debug)]
 pub enum Refusal {
     // A block handed over is not 256 bytes, or a disk's bytes or numbers are unfit.
     UnfitBytes,
@@ -101,7 +104,7 @@ impl Refusal {
         }
     }
 
-    // Whether two refusals are the same, and that `==` says so: a derive has no clause for it.
+    // Whether two refusals are the same, and that `==` says so, in generic code too.
     pub fn is_same(self, other: Refusal) -> bool
         ensures value { result ≡ same_refusal self other }
         ensures same { Decides result (self ≡ other) }
@@ -119,4 +122,22 @@ impl fmt::Display for Refusal {
         let place = self.place();
         write!(f, "refused {code} {place}")
     }
+}
+
+// By hand: of a derived `==` on so many variants the check does not find that `!=`, `contains` and `position` go by it.
+impl PartialEq for Refusal {
+    ghost eq = { same_refusal };
+
+    ghost laws = { partial_equiv_from_equiv (Prim.search (comparing, rules)) };
+
+    fn eq(&self, other: &Refusal) -> bool
+        ensures value { result ≡ same_refusal self.now other.now }
+        ensures same { Decides result (self.now ≡ other.now) }
+    {
+        self.code() == other.code() && self.place() == other.place()
+    }
+}
+
+impl Eq for Refusal {
+    ghost laws = { Prim.search (comparing, rules) };
 }
