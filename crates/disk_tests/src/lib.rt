@@ -1,6 +1,8 @@
 // Examples of the disks and of what a loss of supply leaves, run.
 #![tactic(auto)]
 
+ghost use Rattle.std.specs.Prelude.{nat_le};
+
 #[cfg(test)]
 mod faulty;
 
@@ -13,7 +15,7 @@ mod tests {
     use plain_disk::Plain;
     use power_loss::{Unlisted, states};
     use refusal::Refusal;
-    use rows::{get_block, move_block, put_block};
+    use rows::{Rule, Test, count, fill, find, get_block, move_block, put_block};
     use std::fmt::Debug;
     use std::test::Fail;
 
@@ -97,6 +99,42 @@ mod tests {
         assert_eq!(rt; move_block(&mut row, 1, 0), Ok(()));
         assert_eq!(rt; row[0], 2);
         assert_eq!(rt; row[599], 1);
+    }
+
+    // A mark passes that is at least so much.
+    #[derive(Drop)]
+    struct AtLeast(u8);
+
+    impl Test<u8> for AtLeast {
+        ghost passes = { λ least mark. nat_le least.0 mark };
+
+        fn passes(&self, mark: &u8) -> bool {
+            *mark >= self.0
+        }
+    }
+
+    // Each place gets its number.
+    #[derive(Drop)]
+    struct Numbered;
+
+    impl Rule<usize> for Numbered {
+        ghost at = { λ _ i. i };
+
+        fn at(&self, i: usize) -> usize {
+            i
+        }
+    }
+
+    #[test]
+    fn marks_of_a_row(rt: HostRuntime) {
+        let marks = [3u8, 7, 1, 7];
+        assert_eq!(rt; find(&marks, &AtLeast(4)), Some(1));
+        assert_eq!(rt; find(&marks, &AtLeast(8)), None);
+        assert_eq!(rt; find(&marks[..0], &AtLeast(0)), None);
+        assert_eq!(rt; count(&marks, &AtLeast(3)), 3);
+        let mut places = [9usize; 3];
+        fill(&mut places, &Numbered);
+        assert_eq!(rt; places, [0, 1, 2]);
     }
 
     #[test]

@@ -72,7 +72,20 @@ module _ {X : Type 0} (p : X → Bool) where
   pub position-cons : (x : X) (xs : List X) → position p (x ∷ xs) ≡ cond (p x) (Some 0) (option_map suc (position p xs))
   position-cons x xs = position-is (x ∷ xs) x _ (step x xs x (p x) (position p xs) refl (position-at xs x))
 
-  -- where the first i elements fail and the next one fails, so do the first i + 1
+  -- the first i elements fail if the first one does, and those past it
+  past-first : (x : X) (xs : List X) (d : X) (i : ℕ) → i < length xs → position p (x ∷ take i xs) ≡ None → (p x ≡ false) × (position p (take i xs) ≡ None)
+  past-first x xs d i l e =
+      (missing (x ∷ take i xs) d e 0 (omega arith), position-none (take i xs) d (λ j h. missing (x ∷ take i xs) d e (suc j) (omega arith)))
+
+  -- where the first i elements fail, the next one is the first that passes
+  pub first-at : (xs : List X) (d : X) (i : ℕ) → i < length xs → position p (take i xs) ≡ None → p (get_or xs i d) ≡ true → position p xs ≡ Some i
+  first-at [] d i l e t = absurd (omega arith)
+  first-at (x ∷ xs) d zero l e t = position-cons x xs ∙ cond-true (p x) _ _ t
+  first-at (x ∷ xs) d (suc i) l e t =
+      let rest = past-first x xs d i (omega arith) e in
+      position-cons x xs ∙ cond-false (p x) _ _ rest.0 ∙ ap (option_map suc) (first-at xs d i (omega arith) rest.1 t)
+
+  -- or it fails too
   pub first_past : (xs : List X) (d : X) (i : ℕ) → i < length xs → position p (take i xs) ≡ None → p (get_or xs i d) ≡ false → position p (take (suc i) xs) ≡ None
   first_past [] d i l e t = absurd (omega arith)
   first_past (x ∷ xs) d zero l e t = position-none (x ∷ []) d each
@@ -81,9 +94,8 @@ module _ {X : Type 0} (p : X → Bool) where
       each zero h = t
       each (suc j) h = absurd (omega arith)
   first_past (x ∷ xs) d (suc i) l e t =
-      let first = missing (x ∷ take i xs) d e 0 (omega arith) in
-      let rest = first_past xs d i (omega arith) (position-none (take i xs) d (λ j h. missing (x ∷ take i xs) d e (suc j) (omega arith))) t in
-      position-cons x (take (suc i) xs) ∙ cond-false (p x) _ _ first ∙ ap (option_map suc) rest
+      let rest = past-first x xs d i (omega arith) e in
+      position-cons x (take (suc i) xs) ∙ cond-false (p x) _ _ rest.0 ∙ ap (option_map suc) (first_past xs d i (omega arith) rest.1 t)
 
   -- where none passes the count is 0
   pub count_none : (xs : List X) → position p xs ≡ None → count_by p xs ≡ 0
