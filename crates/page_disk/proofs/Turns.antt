@@ -186,18 +186,22 @@ grounded : (bytes : List ℕ) (t : Pages) (s : Sound bytes t) (b : ℕ) → flie
 grounded bytes t s b e = none_from _ (sym (flies-paged bytes t s b) ∙ e)
 
 -- the best spare page is there just while a spare page exists
-best-spare : (ps : List Page) (lives : List ℕ) (o : Option ℕ) → BestBelow ps lives (length ps) o → is_some (place Spare ps) ≡ is_some o
+pub best-spare : (ps : List Page) (lives : List ℕ) (o : Option ℕ) → BestBelow ps lives (length ps) o → is_some (place Spare ps) ≡ is_some o
 best-spare ps lives None h = ap is_some (position-none (same_page Spare) ps Retired (λ j l. false-from (same_page Spare (get_or ps j Retired)) (λ e. h j l (same-page Spare (get_or ps j Retired) e))))
 best-spare ps lives (Some j) h = some_at (same_page Spare) ps Retired j h.0 (ap (same_page Spare) h.1)
 
--- a block that is not in flight is open just while there is a best spare page
-open-while : (bytes : List ℕ) (t : Pages) (s : Sound bytes t) (b : ℕ) (o : Option ℕ) → flies (paged bytes t) b ≡ false → b < t.blocks → BestBelow t.pages t.lives (length t.pages) o → (paged bytes t).opens b ≡ is_some o
-open-while bytes t s b o idle below h =
-    open-when (ltb b t.blocks) (is_some (place Spare t.pages)) (place (Image b) t.pages) (lt-ltb b t.blocks below) (grounded bytes t s b idle) ∙ best-spare t.pages t.lives o h
+-- a block that is not in flight is open just while a spare page exists
+pub open-while : (bytes : List ℕ) (t : Pages) (b : ℕ) → place (Image b) t.pages ≡ None → b < t.blocks → (paged bytes t).opens b ≡ is_some (place Spare t.pages)
+open-while bytes t b idle below =
+    open-when (ltb b t.blocks) (is_some (place Spare t.pages)) (place (Image b) t.pages) (lt-ltb b t.blocks below) idle
+
+-- that is, while there is a best spare page
+open-best : (bytes : List ℕ) (t : Pages) (s : Sound bytes t) (b : ℕ) (o : Option ℕ) → flies (paged bytes t) b ≡ false → b < t.blocks → BestBelow t.pages t.lives (length t.pages) o → (paged bytes t).opens b ≡ is_some o
+open-best bytes t s b o idle below h = open-while bytes t b (grounded bytes t s b idle) below ∙ best-spare t.pages t.lives o h
 
 -- a block that is not in flight is not open where no page is spare
 pub shut : (bytes : List ℕ) (t : Pages) (s : Sound bytes t) (b : ℕ) → flies (paged bytes t) b ≡ false → b < t.blocks → BestBelow t.pages t.lives (length t.pages) None → (paged bytes t).opens b ≡ false
-shut bytes t s b = open-while bytes t s b None
+shut bytes t s b = open-best bytes t s b None
 
 -- what is to be shown of a start: the condition after it, that the block was open, the effect that every disk's start has, and that of a page disk's
 pub record Started (bytes : List ℕ) (t : Pages) (b : ℕ) (image new : List ℕ) (u : Pages) : Type 0 where
@@ -212,7 +216,7 @@ started bytes t s b j image new u idle below whole best written pages =
     let none = grounded bytes t s b idle in
     record {
       keeps = subst₂ Sound (sym written) (sym pages) (start-sound bytes t s b j image best.1 none below whole);
-      opens = open-while bytes t s b (Some j) idle below best;
+      opens = open-best bytes t s b (Some j) idle below best;
       effect = subst₂ (λ (xs : List ℕ) (x : Pages). StartEffect (paged bytes t) b image (paged xs x)) (sym written) (sym pages) (start-effect bytes t s b j image best.1 none below whole);
       starts = record {
         at = j;

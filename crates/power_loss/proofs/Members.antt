@@ -1,9 +1,16 @@
 -- Which blocks are among those of a list.
-use Rattle.std.proofs.Common.{◌≡◌, ℕ, zero, suc, ◌+◌, ◌<◌, ◌≤◌, Bool, true, false, cond, ◌&&◌, eqb, List, [], ◌∷◌, ◌++◌, filter, sym, refl, map-id, arith}
+use Rattle.std.proofs.Common.{◌≡◌, ℕ, zero, suc, ◌+◌, ◌<◌, ◌≤◌, Bool, true, false, cond, ◌&&◌, eqb, ◌||◌, List, [], ◌∷◌, ◌++◌, filter, sym, refl, ap, ◌∙◌, append-nil, map-id, arith}
 use Rattle.std.specs.List.{range_with_len, list_any}
 use Rattle.std.proofs.lemmas.List.FromFn.{filter_of_map_range_with_len_more}
-use Rattle.std.proofs.lemmas.Bool.{eqb-true}
+use Rattle.std.proofs.lemmas.Bool.{eqb-true, eq-eqb, ne_eqb, or_left, cond-true, cond-false}
 use Rattle.power_loss.specs.States.{among}
+
+-- one more block in front
+pub among-here : (x b : ℕ) (xs : List ℕ) → x ≡ b → among (x ∷ xs) b ≡ true
+among-here x b xs e = or_left (eqb x b) (among xs b) (eq-eqb x b e)
+
+pub among-past : (x b : ℕ) (xs : List ℕ) → (x ≡ b → ⊥) → among (x ∷ xs) b ≡ among xs b
+among-past x b xs d = ap (λ t. t || among xs b) (ne_eqb x b d)
 
 -- what a filter keeps
 pub among-kept-by : (p : ℕ → Bool) (xs : List ℕ) (b : ℕ) → among (filter p xs) b ≡ (among xs b && p b)
@@ -16,6 +23,12 @@ among-kept-by p (x ∷ xs) b =
 -- one more block is looked at
 pub kept_more : (p : ℕ → Bool) (n : ℕ) → filter p (range_with_len 0 (n + 1)) ≡ filter p (range_with_len 0 n) ++ cond (p n) (n ∷ []) []
 kept_more p n = simp map-id at (filter_of_map_range_with_len_more {X = ℕ} p (λ x. x) 0 n n (omega arith))
+
+pub kept-yes : (p : ℕ → Bool) (n : ℕ) → p n ≡ true → filter p (range_with_len 0 (n + 1)) ≡ filter p (range_with_len 0 n) ++ n ∷ []
+kept-yes p n t = kept_more p n ∙ ap (λ l. filter p (range_with_len 0 n) ++ l) (cond-true (p n) (n ∷ []) [] t)
+
+pub kept-no : (p : ℕ → Bool) (n : ℕ) → p n ≡ false → filter p (range_with_len 0 (n + 1)) ≡ filter p (range_with_len 0 n)
+kept-no p n f = kept_more p n ∙ ap (λ l. filter p (range_with_len 0 n) ++ l) (cond-false (p n) (n ∷ []) [] f) ∙ append-nil (filter p (range_with_len 0 n))
 
 -- the blocks from a on
 pub among-counting : (a n b : ℕ) → a ≤ b → b < a + n → among (range_with_len a n) b ≡ true

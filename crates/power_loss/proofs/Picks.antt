@@ -1,6 +1,6 @@
 -- The numbers below 2 to the length of a list are its choices, each once.
 use Rattle.std.proofs.Common.{◌≡◌, ◌≢◌, ◌==◌, map, ℕ, ◌+◌, ◌*◌, ◌/◌, ◌%◌, ◌^◌, ◌<◌, ◌≤◌, Bool, true, cond, eqb, List, [], ◌∷◌, ◌++◌, length, get_or, drop, filter, sym, refl, ap, ◌∙◌, append_assoc, append-nil, add-one, pow-suc, arith}
-use Rattle.std.proofs.lemmas.Bool.{both_ways, cond-true, eq-eqb}
+use Rattle.std.proofs.lemmas.Bool.{both_ways, cond-true, cond-false, eq-eqb, ne_eqb}
 use Rattle.std.proofs.lemmas.List.{at_drop_more, at_drop_all}
 use Rattle.std.proofs.Math.Nat.{div-one, div-div-eq-div-mul}
 use Rattle.std.specs.List.{enumerate_from}
@@ -20,11 +20,16 @@ picked-places_from n k (x ∷ xs) =
 pub picked-places : (n : ℕ) (xs : List ℕ) → picked n xs ≡ map (λ p. p.1) (filter (λ p. n / 2 ^ p.0 % 2 == 1) (enumerate_from 0 xs))
 picked-places n xs = ap (λ m. picked m xs) (sym (div-one n)) ∙ picked-places_from n 0 xs
 
--- the block at place i is picked, or none is left
+-- the block at place i is picked, or is not, or none is left
 pub pick_more : (ws xs : List ℕ) (n i : ℕ) → i < length xs → n % 2 ≡ 1 → (ws ++ get_or xs i 0 ∷ []) ++ picked (n / 2) (drop (i + 1) xs) ≡ ws ++ picked n (drop i xs)
 pick_more ws xs n i l o =
     let odd : picked n (get_or xs i 0 ∷ drop (i + 1) xs) ≡ get_or xs i 0 ∷ picked (n / 2) (drop (i + 1) xs) = cond-true (eqb (n % 2) 1) _ _ (eq-eqb (n % 2) 1 o) in
     append_assoc ws (get_or xs i 0 ∷ []) (picked (n / 2) (drop (i + 1) xs)) ∙ ap (λ t. ws ++ t) (sym (at_drop_more (picked n) xs i 0 l ∙ odd))
+
+pub skip-more : (ws xs : List ℕ) (n i : ℕ) → i < length xs → n % 2 ≡ 0 → ws ++ picked (n / 2) (drop (i + 1) xs) ≡ ws ++ picked n (drop i xs)
+skip-more ws xs n i l z =
+    let even : picked n (get_or xs i 0 ∷ drop (i + 1) xs) ≡ picked (n / 2) (drop (i + 1) xs) = cond-false (eqb (n % 2) 1) _ _ (ne_eqb (n % 2) 1 (λ o. omega arith)) in
+    ap (λ t. ws ++ t) (sym (at_drop_more (picked n) xs i 0 l ∙ even))
 
 pub pick_all : (ws xs : List ℕ) (n i : ℕ) → length xs ≤ i → ws ≡ ws ++ picked n (drop i xs)
 pick_all ws xs n i l = sym (ap (λ t. ws ++ t) (at_drop_all (picked n) xs i l) ∙ append-nil ws)
