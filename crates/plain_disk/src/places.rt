@@ -58,6 +58,7 @@ impl Places {
     }
 
     // The lowest place with this slot.
+    #[inline]
     fn find(&self, wanted: Slot) -> Option<usize>
         ensures { result ≡ place wanted self.now.slots }
     {
